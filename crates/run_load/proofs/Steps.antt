@@ -9,7 +9,7 @@ use Rattle.model_core.specs.declared.model.Model.{Model}
 use Rattle.model_core.specs.declared.model.Placed.{Placed}
 use Rattle.nddl_ast.specs.declared.kind.TextKind.{TextKind}
 use Rattle.nddl_ast.specs.declared.kind.TextKind.TheVariants as kinds
-use Rattle.model_core.specs.declared.refusal.Refusal.TheVariants.{Unknown, Decided, NotInDomain, NotActive, NotSamePredicate, NotRejectable, SameToken, ActiveFull}
+use Rattle.model_core.specs.declared.refusal.Refusal.TheVariants.{Unknown, WrongType, Decided, NotInDomain, NotActive, NotSamePredicate, NotRejectable, SameToken, ActiveFull}
 use Rattle.plan_db.specs.declared.fault.DbFault.{DbFault}
 use Rattle.plan_db.specs.declared.fault.DbFault.TheVariants as fault
 use Rattle.plan_db.specs.declared.fault.Outcome.{Outcome}
@@ -33,6 +33,8 @@ spoken old new decision fault.InInconsistent against answers is =
     against_is against kinds.AfterConflict old.database new.database decision is answers.1.1 answers.1.0
 spoken old new decision fault.Unknown against answers is =
     against_is against kinds.NotAdmissible old.database new.database decision is (Unknown, answers.1.1) answers.1.0
+spoken old new decision fault.WrongType against answers is =
+    against_is against kinds.NotAdmissible old.database new.database decision is (WrongType, answers.1.1) answers.1.0
 spoken old new decision fault.Decided against answers is =
     against_is against kinds.NotAdmissible old.database new.database decision is (Decided, answers.1.1) answers.1.0
 spoken old new decision fault.NotInDomain against answers is =

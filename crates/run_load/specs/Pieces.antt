@@ -47,6 +47,7 @@ is_read_fault (Err pose.Memory) = false
 abbrev pub IsSpokenBy : DbFault → Option TextKind → Type 0
 IsSpokenBy db.InInconsistent against = against ≡ Some kinds.AfterConflict
 IsSpokenBy db.Unknown against = against ≡ Some kinds.NotAdmissible
+IsSpokenBy db.WrongType against = against ≡ Some kinds.NotAdmissible
 IsSpokenBy db.Decided against = against ≡ Some kinds.NotAdmissible
 IsSpokenBy db.NotInDomain against = against ≡ Some kinds.NotAdmissible
 IsSpokenBy db.NotActive against = against ≡ Some kinds.NotAdmissible

@@ -22,6 +22,7 @@ fn spoken_by(fault: DbFault) -> Result<Option<TextKind>, AllocError>
         ),
         DbFault::InInconsistent => Ok(Some(TextKind::AfterConflict)),
         DbFault::Unknown
+        | DbFault::WrongType
         | DbFault::Decided
         | DbFault::NotInDomain
         | DbFault::NotActive

@@ -9,7 +9,7 @@ use Rattle.script_lang.specs.Number.{IsSignedNumber, IsSignedDecimal}
 abbrev IsLow : ℕ → Type 0
 IsLow byte = byte < 128
 
-digit_is_low : (byte : ℕ) → IsTrue (is_ascii_digit byte) → byte < 128
+pub digit_is_low : (byte : ℕ) → IsTrue (is_ascii_digit byte) → byte < 128
 digit_is_low byte is = grind (arith, nat_tests)
 
 low_at : (first : ℕ) (rest : List ℕ) (v : Bool) → eqb first 45 ≡ v → IsSignedNumber (first ∷ rest) → All (λ byte. byte < 128) (first ∷ rest)

@@ -1,22 +1,28 @@
 -- Which decision a command asks for.
-use Rattle.std.proofs.Common.{◌≡◌, ℕ, ℤ, List, Option, Some, None, Result, Ok, Err, MatchOption, refl, sym, ap, subst}
+use Rattle.std.proofs.Common.{◌≡◌, ℕ, ℤ, List, Option, Some, None, Result, Ok, Err, MatchOption, refl, sym, ap, ◌∙◌, subst}
 use Rattle.std.specs.Prelude.{IfOk, IsErr, MatchResult}
 use Rattle.std.proofs.lemmas.Bool.{false≢true}
 use Rattle.std.specs.Option.{option_map}
 use Rattle.eu_name.specs.declared.name.TokenName.{TokenName}
 use Rattle.eu_name.specs.declared.name.VarName.{VarName}
 use Rattle.eu_name.specs.declared.name_text.NameText.{NameText}
+use Rattle.domain_core.specs.declared.kind.Kind.{Kind}
+use Rattle.model_core.specs.declared.decision.ConArg.{ConArg}
 use Rattle.model_core.specs.declared.decision.Decision.{Decision}
 use Rattle.model_core.specs.declared.decision.Decision.TheVariants as decisions
+use Rattle.model_core.specs.declared.item.Rel.{Rel}
 use Rattle.model_core.specs.declared.model.Model.{Model}
 use Rattle.model_core.specs.declared.variable.ValueKind.{ValueKind}
+use Rattle.model_core.specs.Kinds.{IsVariableOfKind}
 use Rattle.model_core.specs.Lawful.{IsLawful}
 use Rattle.model_core.specs.Names.{NamesToken, NamesVariable}
+use Rattle.model_core.proofs.Kinding.{kind_once}
 use Rattle.model_core.proofs.Naming.{names_one_token, names_one_variable}
 use Rattle.script_lang.specs.declared.command.Command.{Command}
 use Rattle.script_lang.specs.declared.command.Command.TheVariants as commands
-use Rattle.script_lang.specs.Naming.{IsVariableOfKind, SaysValue, AsksDecision, AsksNothing, StandsFor, StandsForDecision, FindsDecision}
-use Rattle.script_lang.proofs.Kinding.{kind_once, value_said_once}
+use Rattle.script_lang.specs.Naming.{SaysValue, AsksDecision, AsksNothing, SayArguments, StandsFor, StandForArguments, StandsForDecision, FindsDecision}
+use Rattle.script_lang.proofs.Arguing.{said_once}
+use Rattle.script_lang.proofs.Kinding.{value_said_once}
 
 -- ---- what is so where something was found, and where nothing was
 
@@ -54,11 +60,22 @@ asks_one model (commands.Order text after) (decisions.Order first second) (decis
     let firsts : first ≡ first' = names_one_token model text first first' lawful names names' in
     let seconds : second ≡ second' = names_one_token model after second second' lawful after_names after_names' in
     cc
+asks_one model (commands.Post kind words) (decisions.Constrain other given) (decisions.Constrain other' given') lawful (is, say) (is', say') =
+    let kinds : other ≡ other' = is ∙ sym is' in
+    let arguments : given ≡ given' = said_once model lawful kind words given given' say say' in
+    cc
+asks_one model (commands.Relate relation text after) (decisions.Relate other first second) (decisions.Relate other' first' second') lawful (is, names, after_names) (is', names', after_names') =
+    let relations : other ≡ other' = is ∙ sym is' in
+    let firsts : first ≡ first' = names_one_token model text first first' lawful names names' in
+    let seconds : second ≡ second' = names_one_token model after second second' lawful after_names after_names' in
+    cc
 asks_one model (commands.Specify text word) (decisions.Specify name value) other lawful asks asks' = absurd asks'
 asks_one model (commands.Activate text) (decisions.Activate token) other lawful asks asks' = absurd asks'
 asks_one model (commands.Merge text into) (decisions.Merge token target) other lawful asks asks' = absurd asks'
 asks_one model (commands.Reject text) (decisions.Reject token) other lawful asks asks' = absurd asks'
 asks_one model (commands.Order text after) (decisions.Order first second) other lawful asks asks' = absurd asks'
+asks_one model (commands.Post kind words) (decisions.Constrain other given) decision lawful asks asks' = absurd asks'
+asks_one model (commands.Relate relation text after) (decisions.Relate other first second) decision lawful asks asks' = absurd asks'
 asks_one model command one other lawful asks asks' = absurd asks
 
 -- ---- values of variables
@@ -120,6 +137,10 @@ pub no_order : (model : Model) (text after : NameText) → NameNoTokens model te
 no_order model text after none (decisions.Order first second) (names, names') = none first second names names'
 no_order model text after none decision asks = asks
 
+pub no_relate : (model : Model) (relation : Rel) (text after : NameText) → NameNoTokens model text after → AsksNothing model (commands.Relate relation text after)
+no_relate model relation text after none (decisions.Relate other first second) (is, names, names') = none first second names names'
+no_relate model relation text after none decision asks = asks
+
 pub both_named : {E F : Type 0} (model : Model) (one other : NameText) (first : TokenName) (second : Result (Option TokenName) E) (result : Result (Option (TokenName × TokenName)) F) → NamesToken model one first
     → IfOk second (λ answer. MatchOption answer (NamesNoToken model other) (NamesToken model other))
     → MatchResult second (λ found. result ≡ Ok (option_map (λ token. (first, token)) found)) (λ _. IsErr result)
@@ -130,3 +151,18 @@ both_named {F = F} model one other first (Ok None) result names none is =
     subst (λ (r : Result (Option (TokenName × TokenName)) F). IfOk r (λ answer. MatchOption answer (NameNoTokens model one other) (λ tokens. NamesToken model one tokens.0 × NamesToken model other tokens.1))) (sym is) (λ a b named named'. none b named')
 both_named model one other first (Err fault) (Ok found) names none is = absurd (false≢true is)
 both_named model one other first (Err fault) (Err other_fault) names none is = tt
+
+-- ---- constraints
+
+-- the words say no arguments
+abbrev pub SayNoArguments : Model → Kind → List (List ℕ) → Type 0
+SayNoArguments model kind words = (given : List ConArg) → SayArguments model kind words given → ⊥
+
+pub no_post : (model : Model) (kind : Kind) (words : List (List ℕ)) → SayNoArguments model kind words → AsksNothing model (commands.Post kind words)
+no_post model kind words none (decisions.Constrain other given) (is, say) = none given say
+no_post model kind words none decision asks = asks
+
+pub post_found : (model : Model) (kind : Kind) (words : List (List ℕ)) (given : List ConArg)
+    → (asked : List ConArg) × (SayArguments model kind words asked × StandForArguments given asked)
+    → FindsDecision model (commands.Post kind words) (Some (decisions.Constrain kind given))
+post_found model kind words given (asked, (say, stand)) = (decisions.Constrain kind asked, ((refl, say), (refl, stand)))

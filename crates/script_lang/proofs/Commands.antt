@@ -1,16 +1,15 @@
 -- Laws of what words and lines ask for.
-use Rattle.std.proofs.Common.{◌≡◌, ℕ, ◌≤◌, ◌<◌, ◌⊎◌, List, [], ◌∷◌, length, take, Result, Ok, Err, Some, None, Bool, true, false, cond, refl, sym, ap, ◌∙◌, subst, inl, inr, arith}
+use Rattle.std.proofs.Common.{◌≡◌, ℕ, ◌≤◌, ◌<◌, ◌⊎◌, List, [], ◌∷◌, length, take, Result, Ok, Err, Some, None, refl, sym, ap, ◌∙◌, subst, inl, inr, arith}
 use Rattle.std.specs.Prelude.{codes, ⊤, IsOkAnd, MatchResult}
 use Rattle.std.specs.Fmt.{decimal}
-use Rattle.std.specs.List.{find}
-use Rattle.std.specs.Str.{bytes_eq}
 use Rattle.std.proofs.lemmas.Bool.{cases_lt}
 use Rattle.std.proofs.lemmas.Fmt.{decimal_injective}
 use Rattle.std.proofs.lemmas.List.{take_all, length-take-le}
-use Rattle.std.proofs.lemmas.Slice.Eq.{bytes_eq-Decides}
+use Rattle.domain_core.specs.declared.kind.Kind.{Kind}
 use Rattle.eu_name.specs.declared.name_text.NameText.{NameText}
 use Rattle.eu_name.specs.Spelling.{Spells}
 use Rattle.eu_name.proofs.Names.{spells_one_name}
+use Rattle.model_core.specs.declared.item.Rel.{Rel}
 use Rattle.script_lang.specs.declared.command.Command.{Command}
 use Rattle.script_lang.specs.declared.command.Command.TheVariants as commands
 use Rattle.script_lang.specs.declared.command.LineFault.{LineFault}
@@ -20,29 +19,19 @@ use Rattle.script_lang.specs.Words.{words_of}
 use Rattle.script_lang.specs.declared.verb.Verb.{Verb}
 use Rattle.script_lang.specs.declared.verb.Verb.TheVariants as verbs
 use Rattle.script_lang.specs.Laws.{WordsAskOnce, LinesAskOnce, LinesHaveOneAnswer, FrontDecides}
-use Rattle.script_lang.specs.Operands.{Says, Tells, IsValueOf, IsOne, AreTwo, AreBounds}
+use Rattle.script_lang.specs.KindWords.{constraint_word, relation_word}
+use Rattle.script_lang.specs.Operands.{Says, Tells, IsValueOf, IsOne, AreTwo, AreConstraint, AreRelation, AreBounds}
 use Rattle.script_lang.specs.Verbs.{verb_word, all_verbs, verb_of}
+use Rattle.script_lang.proofs.Spelled.{spelled_so, same_constraint, same_relation}
 
 -- ---- verbs
-
--- the test by which a verb is found
-abbrev spells_verb : List ℕ → Verb → Bool
-spells_verb word verb = bytes_eq (verb_word verb) word
-
-found_in : (word : List ℕ) (those : List Verb) (verb : Verb) → find (spells_verb word) those ≡ Some verb → verb_word verb ≡ word
-found_in word [] verb is = absurd cc
-found_in word (first ∷ those) verb is = chosen (found_in word those verb) (spells_verb word first) refl is where
-  chosen : (find (spells_verb word) those ≡ Some verb → verb_word verb ≡ word) → (flag : Bool) → spells_verb word first ≡ flag
-      → cond flag (Some first) (find (spells_verb word) those) ≡ Some verb → verb_word verb ≡ word
-  chosen further true same found =
-      let one : first ≡ verb = cc in
-      subst (λ v. verb_word v ≡ word) one ((bytes_eq-Decides (verb_word first) word).0 same)
-  chosen further false other found = further found
 
 -- the verb that is found is written so
 pub verb_found : (word : List ℕ) (verb : Verb) → verb_of word ≡ Some verb → verb_word verb ≡ word
 unfolding verb_of
-verb_found word verb is = found_in word all_verbs verb is
+verb_found word verb is =
+    (spelled_so verb_word (λ (v : Verb). ⊤) word all_verbs verb
+    (tt, (tt, (tt, (tt, (tt, (tt, (tt, (tt, (tt, (tt, (tt, (tt, (tt, (tt, (tt, (tt, (tt, (tt, (tt, tt))))))))))))))))))) is).0
 
 -- no two verbs are written alike
 named_verb : (verb : Verb) → verb_of (verb_word verb) ≡ Some verb
@@ -52,7 +41,11 @@ named_verb verbs.Activate = refl
 named_verb verbs.Merge = refl
 named_verb verbs.Reject = refl
 named_verb verbs.Order = refl
+named_verb verbs.Post = refl
+named_verb verbs.Relate = refl
 named_verb verbs.Reset = refl
+named_verb verbs.Withdraw = refl
+named_verb verbs.Unrelate = refl
 named_verb verbs.Undo = refl
 named_verb verbs.Domain = refl
 named_verb verbs.Tokens = refl
@@ -82,7 +75,11 @@ Asked verbs.Activate = NameText
 Asked verbs.Merge = NameText × NameText
 Asked verbs.Reject = NameText
 Asked verbs.Order = NameText × NameText
+Asked verbs.Post = Kind × List (List ℕ)
+Asked verbs.Relate = Rel × (NameText × NameText)
 Asked verbs.Reset = NameText ⊎ (NameText × NameText)
+Asked verbs.Withdraw = Kind × List (List ℕ)
+Asked verbs.Unrelate = Rel × (NameText × NameText)
 Asked verbs.Domain = NameText
 Asked verbs.Solve = ℕ × ℕ
 Asked verbs.Undo = ⊤
@@ -99,8 +96,12 @@ command_of verbs.Activate asked = commands.Activate asked
 command_of verbs.Merge asked = commands.Merge asked.0 asked.1
 command_of verbs.Reject asked = commands.Reject asked
 command_of verbs.Order asked = commands.Order asked.0 asked.1
+command_of verbs.Post asked = commands.Post asked.0 asked.1
+command_of verbs.Relate asked = commands.Relate asked.0 asked.1.0 asked.1.1
 command_of verbs.Reset (inl name) = commands.Reset name
 command_of verbs.Reset (inr names) = commands.ResetOrder names.0 names.1
+command_of verbs.Withdraw asked = commands.Withdraw asked.0 asked.1
+command_of verbs.Unrelate asked = commands.Unrelate asked.0 asked.1.0 asked.1.1
 command_of verbs.Domain asked = commands.Domain asked
 command_of verbs.Solve asked = commands.Solve asked.0 asked.1
 command_of verbs.Undo asked = commands.Undo
@@ -117,8 +118,12 @@ IsBehind verbs.Activate rest asked = IsOne Spells rest asked
 IsBehind verbs.Merge rest asked = AreTwo Spells Spells rest asked
 IsBehind verbs.Reject rest asked = IsOne Spells rest asked
 IsBehind verbs.Order rest asked = AreTwo Spells Spells rest asked
+IsBehind verbs.Post rest asked = AreConstraint rest asked
+IsBehind verbs.Relate rest asked = AreRelation rest asked
 IsBehind verbs.Reset rest (inl name) = IsOne Spells rest name
 IsBehind verbs.Reset rest (inr names) = AreTwo Spells Spells rest names
+IsBehind verbs.Withdraw rest asked = AreConstraint rest asked
+IsBehind verbs.Unrelate rest asked = AreRelation rest asked
 IsBehind verbs.Domain rest asked = IsOne Spells rest asked
 IsBehind verbs.Solve rest asked = AreBounds rest asked
 IsBehind verbs.Undo rest asked = rest ≡ []
@@ -140,8 +145,12 @@ is_command verbs.Activate rest asked (word, (are, spells)) = (word, (onto (codes
 is_command verbs.Merge rest asked (word, (next, (are, one, other))) = (word, (next, (onto (codes "merge") rest _ are, one, other)))
 is_command verbs.Reject rest asked (word, (are, spells)) = (word, (onto (codes "reject") rest _ are, spells))
 is_command verbs.Order rest asked (word, (next, (are, one, other))) = (word, (next, (onto (codes "order") rest _ are, one, other)))
+is_command verbs.Post rest asked (are, posted, some, words) = (onto (codes "post") rest _ are, posted, some, words)
+is_command verbs.Relate rest asked (word, (next, (are, one, other))) = (word, (next, (onto (codes "relate") rest _ are, one, other)))
 is_command verbs.Reset rest (inl name) (word, (are, spells)) = (word, (onto (codes "reset") rest _ are, spells))
 is_command verbs.Reset rest (inr names) (word, (next, (are, one, other))) = (word, (next, (onto (codes "reset") rest _ are, one, other)))
+is_command verbs.Withdraw rest asked (are, posted, some, words) = (onto (codes "withdraw") rest _ are, posted, some, words)
+is_command verbs.Unrelate rest asked (word, (next, (are, one, other))) = (word, (next, (onto (codes "unrelate") rest _ are, one, other)))
 is_command verbs.Domain rest asked (word, (are, spells)) = (word, (onto (codes "domain") rest _ are, spells))
 is_command verbs.Solve rest asked (are, some, few, small) = (onto (codes "solve") rest _ are, some, few, small)
 is_command verbs.Undo rest asked none = onto (codes "undo") rest [] none
@@ -184,10 +193,18 @@ parts words (commands.Reject token) (word, (are, spells)) =
     inr (record { verb = verbs.Reject; asked = token; rest = word ∷ []; whole = are; is = refl; behind = (word, (refl, spells)) })
 parts words (commands.Order first second) (word, (next, (are, one, other))) =
     inr (record { verb = verbs.Order; asked = (first, second); rest = word ∷ next ∷ []; whole = are; is = refl; behind = (word, (next, (refl, one, other))) })
+parts words (commands.Post kind arguments) (are, posted, some, fine) =
+    inr (record { verb = verbs.Post; asked = (kind, arguments); rest = constraint_word kind ∷ arguments; whole = are; is = refl; behind = (refl, posted, some, fine) })
+parts words (commands.Relate relation first second) (word, (next, (are, one, other))) =
+    inr (record { verb = verbs.Relate; asked = (relation, (first, second)); rest = relation_word relation ∷ word ∷ next ∷ []; whole = are; is = refl; behind = (word, (next, (refl, one, other))) })
 parts words (commands.Reset subject) (word, (are, spells)) =
     inr (record { verb = verbs.Reset; asked = inl subject; rest = word ∷ []; whole = are; is = refl; behind = (word, (refl, spells)) })
 parts words (commands.ResetOrder first second) (word, (next, (are, one, other))) =
     inr (record { verb = verbs.Reset; asked = inr (first, second); rest = word ∷ next ∷ []; whole = are; is = refl; behind = (word, (next, (refl, one, other))) })
+parts words (commands.Withdraw kind arguments) (are, posted, some, fine) =
+    inr (record { verb = verbs.Withdraw; asked = (kind, arguments); rest = constraint_word kind ∷ arguments; whole = are; is = refl; behind = (refl, posted, some, fine) })
+parts words (commands.Unrelate relation first second) (word, (next, (are, one, other))) =
+    inr (record { verb = verbs.Unrelate; asked = (relation, (first, second)); rest = relation_word relation ∷ word ∷ next ∷ []; whole = are; is = refl; behind = (word, (next, (refl, one, other))) })
 parts words commands.Undo are = inr (lone verbs.Undo tt words commands.Undo refl refl are)
 parts words (commands.Domain variable) (word, (are, spells)) =
     inr (record { verb = verbs.Domain; asked = variable; rest = word ∷ []; whole = are; is = refl; behind = (word, (refl, spells)) })
@@ -372,6 +389,33 @@ same_bounds rest one other is is' =
       decimal_injective one.1 other.1 (omega (arith, is.3)) (omega (arith, is'.3)) (sym same.back),
     )
 
+same_posting : (rest : List (List ℕ)) (one other : Kind × List (List ℕ)) → AreConstraint rest one → AreConstraint rest other → (one.0 ≡ other.0) × (one.1 ≡ other.1)
+same_posting rest one other is is' =
+    let both : constraint_word one.0 ∷ one.1 ≡ constraint_word other.0 ∷ other.1 = sym is.0 ∙ is'.0 in
+    let words : constraint_word one.0 ≡ constraint_word other.0 = cc in
+    (same_constraint one.0 other.0 is.1 is'.1 words, cc)
+
+-- the same relation and the same two words
+record AreSameRelated (one other : Rel × (NameText × NameText)) : Type 0 where
+  relation : one.0 ≡ other.0
+  first : one.1.0 ≡ other.1.0
+  second : one.1.1 ≡ other.1.1
+
+same_relating : (rest : List (List ℕ)) (one other : Rel × (NameText × NameText)) → AreRelation rest one → AreRelation rest other → AreSameRelated one other
+same_relating rest one other (first, (second, (are, is, is_too))) (first', (second', (are', is', is_too'))) =
+    let both : relation_word one.0 ∷ (first ∷ (second ∷ [])) ≡ relation_word other.0 ∷ (first' ∷ (second' ∷ [])) = sym are ∙ are' in
+    let words : relation_word one.0 ≡ relation_word other.0 = cc in
+    let front : first' ≡ first = cc in
+    let back : second' ≡ second = cc in
+    record {
+      relation = same_relation one.0 other.0 words;
+      first = spells_one_name first one.1.0 other.1.0 is (subst (λ w. Spells w other.1.0) front is');
+      second = spells_one_name second one.1.1 other.1.1 is_too (subst (λ w. Spells w other.1.1) back is_too');
+    }
+
+joined_three : (make : Rel → NameText → NameText → Command) (one other : Rel × (NameText × NameText)) → AreSameRelated one other → make one.0 one.1.0 one.1.1 ≡ make other.0 other.1.0 other.1.1
+joined_three make one other same = rw (same.relation, same.first, same.second) refl
+
 one_or_two : (rest : List (List ℕ)) (name : NameText) (names : NameText × NameText) → IsOne Spells rest name → AreTwo Spells Spells rest names → ⊥
 one_or_two rest name names (word, (are, spells)) (first, (second, (are', is, is_too))) =
     let both : word ∷ [] ≡ first ∷ (second ∷ []) = sym are ∙ are' in
@@ -387,10 +431,14 @@ same_asked verbs.Activate rest one other is is' = ap commands.Activate (same_one
 same_asked verbs.Merge rest one other is is' = joined_pair commands.Merge one.0 other.0 one.1 other.1 (same_two Spells spells_one_name rest one other is is')
 same_asked verbs.Reject rest one other is is' = ap commands.Reject (same_one rest one other is is')
 same_asked verbs.Order rest one other is is' = joined_pair commands.Order one.0 other.0 one.1 other.1 (same_two Spells spells_one_name rest one other is is')
+same_asked verbs.Post rest one other is is' = joined_pair commands.Post one.0 other.0 one.1 other.1 (same_posting rest one other is is')
+same_asked verbs.Relate rest one other is is' = joined_three commands.Relate one other (same_relating rest one other is is')
 same_asked verbs.Reset rest (inl one) (inl other) is is' = ap commands.Reset (same_one rest one other is is')
 same_asked verbs.Reset rest (inl one) (inr other) is is' = absurd (one_or_two rest one other is is')
 same_asked verbs.Reset rest (inr one) (inl other) is is' = absurd (one_or_two rest other one is' is)
 same_asked verbs.Reset rest (inr one) (inr other) is is' = joined_pair commands.ResetOrder one.0 other.0 one.1 other.1 (same_two Spells spells_one_name rest one other is is')
+same_asked verbs.Withdraw rest one other is is' = joined_pair commands.Withdraw one.0 other.0 one.1 other.1 (same_posting rest one other is is')
+same_asked verbs.Unrelate rest one other is is' = joined_three commands.Unrelate one other (same_relating rest one other is is')
 same_asked verbs.Domain rest one other is is' = ap commands.Domain (same_one rest one other is is')
 same_asked verbs.Solve rest one other is is' = joined_pair commands.Solve one.0 other.0 one.1 other.1 (same_bounds rest one other is is')
 same_asked verbs.Undo rest one other is is' = refl

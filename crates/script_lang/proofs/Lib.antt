@@ -3,10 +3,15 @@ pub mod Ascii
 pub mod Numerals
 pub mod Decimals
 pub mod Thousandths
+pub mod Spelled
 pub mod Commands
 pub mod Counting
 pub mod Low
 pub mod Naming
 pub mod Asked
 pub mod Kinding
+pub mod Placed
+pub mod Arguing
+pub mod Standing
+pub mod Listed
 pub mod Sharing

@@ -1,13 +1,23 @@
--- Value words are ASCII.
-use Rattle.std.proofs.Common.{◌≡◌, ℕ, ◌<◌, Bool, true, false, List, [], ◌∷◌, All, IsTrue, refl, sym, subst, inl, inr, arith}
-use Rattle.std.specs.List.{AllByRecursion, slice_split, onto_first}
+-- Words of values and names are ASCII.
+use Rattle.std.proofs.Common.{◌≡◌, ℕ, ◌<◌, Bool, true, false, List, [], ◌∷◌, ◌++◌, All, IsTrue, refl, sym, subst, inl, inr, codes, arith}
+use Rattle.std.specs.Char.{is_ascii_digit}
+use Rattle.std.specs.Fmt.{decimal}
+use Rattle.std.specs.List.{AllByRecursion, slice_split, onto_first, flat_map}
 use Rattle.std.proofs.lemmas.Bool.Decides.{nat_tests}
+use Rattle.std.proofs.lemmas.Fmt.{digits_decimal}
 use Rattle.std.proofs.lemmas.List.Elements.{All-from_recursion, recursion_from_All}
+use Rattle.eu_name.specs.declared.name.Step.{Step}
+use Rattle.eu_name.specs.declared.name_text.NameText.{NameText}
+use Rattle.eu_name.specs.declared.name_text.Tail.{Tail}
+use Rattle.eu_name.specs.declared.name_text.Tail.TheVariants as tails
+use Rattle.eu_name.specs.Spelling.{IsStep, IsTail, IsWellFormed, step_text, tail_text, ending_text, name_spelling}
 use Rattle.eu_name.specs.Word.{IsName, is_word_start, is_word_byte}
+use Rattle.eu_name.proofs.Fronts.{Passes}
+use Rattle.eu_name.proofs.Numbers.{own}
 use Rattle.model_core.specs.Naming.{is_point}
 use Rattle.plan_text.specs.Values.{IsTruthWord}
-use Rattle.script_lang.proofs.Ascii.{number_is_ascii, decimal_is_ascii}
-use Rattle.script_lang.specs.Line.{IsValueWord}
+use Rattle.script_lang.proofs.Ascii.{digit_is_low, number_is_ascii, decimal_is_ascii}
+use Rattle.script_lang.specs.Line.{IsValueWord, IsArgumentWord}
 
 abbrev AreLow : List ℕ → Type 0
 AreLow bytes = AllByRecursion (λ byte. byte < 128) bytes
@@ -60,3 +70,40 @@ value_is_low word (inl number) = number_is_ascii word number
 value_is_low word (inr (inl decimal)) = decimal_is_ascii word decimal
 value_is_low word (inr (inr (inl truth))) = low word (truth_is_low word truth)
 value_is_low word (inr (inr (inr path))) = low word (whole_is_low word (names_are_low (slice_split is_point word) (recursion_from_All IsName (slice_split is_point word) path)))
+
+-- ---- names
+
+low_both : (one other : List ℕ) → AreLow one → AreLow other → AreLow (one ++ other)
+low_both [] other first second = second
+low_both (byte ∷ one) other first second = (first.0, low_both one other first.1 second)
+
+digits_low : (digits : List ℕ) → Passes is_ascii_digit digits → AreLow digits
+digits_low [] are = tt
+digits_low (byte ∷ digits) are = (digit_is_low byte are.0, digits_low digits are.1)
+
+decimal_low : (n : ℕ) → n < 65536 → AreLow (decimal n)
+decimal_low n small = digits_low (decimal n) (digits_decimal own n (omega (arith, small)))
+
+steps_low : (steps : List Step) → AllByRecursion IsStep steps → AreLow (flat_map step_text steps)
+steps_low [] are = tt
+steps_low (step ∷ steps) are =
+    low_both (step_text step) (flat_map step_text steps)
+    (omega arith, low_both (decimal step.rule) (codes ":" ++ decimal step.slot) (decimal_low step.rule are.0.0) (omega arith, decimal_low step.slot are.0.1)) (steps_low steps are.1)
+
+tail_low : (tail : Tail) → IsTail tail → AreLow (tail_text tail)
+tail_low tails.None is = tt
+tail_low (tails.Part part) is = (omega arith, name_is_low part is)
+tail_low (tails.Local rule number) is =
+    (omega arith, low_both (decimal rule) (codes "!" ++ decimal number) (decimal_low rule is.0) (omega arith, decimal_low number is.1))
+
+spelling_low : (name : NameText) → IsWellFormed name → AreLow (name_spelling name)
+spelling_low name (inl (label, steps, tail)) =
+    low_both name.label (ending_text name.steps name.tail) (name_is_low name.label label)
+    (low_both (flat_map step_text name.steps) (tail_text name.tail) (steps_low name.steps (recursion_from_All IsStep name.steps steps)) (tail_low name.tail tail))
+spelling_low name (inr (label, steps, tail)) =
+    let none : AreLow (ending_text name.steps name.tail) = rw (steps, tail) tt in
+    low_both name.label (ending_text name.steps name.tail) (subst AreLow (sym label.2) (omega arith, decimal_low label.0 label.1)) none
+
+pub argument_is_low : (word : List ℕ) → IsArgumentWord word → All (λ byte. byte < 128) word
+argument_is_low word (inl (name, (formed, is))) = low word (subst AreLow (sym is) (spelling_low name formed))
+argument_is_low word (inr value) = value_is_low word value

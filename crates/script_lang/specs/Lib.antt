@@ -1,9 +1,12 @@
 pub mod Words
 pub mod Number
+pub mod KindWords
 pub mod Line
 pub mod WordLaws
 pub mod Verbs
 pub mod Operands
 pub mod Laws
 pub mod CommandLaws
+pub mod Compared
 pub mod Naming
+pub mod Arguing

@@ -12,7 +12,11 @@ verb_word verbs.Activate = codes "activate"
 verb_word verbs.Merge = codes "merge"
 verb_word verbs.Reject = codes "reject"
 verb_word verbs.Order = codes "order"
+verb_word verbs.Post = codes "post"
+verb_word verbs.Relate = codes "relate"
 verb_word verbs.Reset = codes "reset"
+verb_word verbs.Withdraw = codes "withdraw"
+verb_word verbs.Unrelate = codes "unrelate"
 verb_word verbs.Undo = codes "undo"
 verb_word verbs.Domain = codes "domain"
 verb_word verbs.Tokens = codes "tokens"
@@ -26,8 +30,9 @@ verb_word verbs.Quit = codes "quit"
 -- all of them
 abbrev pub all_verbs : List Verb
 all_verbs =
-    verbs.Specify ∷ verbs.Activate ∷ verbs.Merge ∷ verbs.Reject ∷ verbs.Order ∷ verbs.Reset ∷ verbs.Undo ∷ verbs.Domain
-    ∷ verbs.Tokens ∷ verbs.Decisions ∷ verbs.Flaws ∷ verbs.Solve ∷ verbs.Why ∷ verbs.Cycle ∷ verbs.Quit ∷ []
+    verbs.Specify ∷ verbs.Activate ∷ verbs.Merge ∷ verbs.Reject ∷ verbs.Order ∷ verbs.Post ∷ verbs.Relate ∷ verbs.Reset
+    ∷ verbs.Withdraw ∷ verbs.Unrelate ∷ verbs.Undo ∷ verbs.Domain ∷ verbs.Tokens ∷ verbs.Decisions ∷ verbs.Flaws
+    ∷ verbs.Solve ∷ verbs.Why ∷ verbs.Cycle ∷ verbs.Quit ∷ []
 
 -- the one that is written so, if there is one
 unfoldable pub verb_of : List ℕ → Option Verb

@@ -3,6 +3,7 @@
 ghost use Rattle.std.specs.Prelude.{◌≡◌, ℤ, IfOk, IsErr, MatchOption, MatchResult, Ok};
 ghost use Rattle.std.specs.Option.{option_map};
 ghost use Rattle.model_core.specs.declared.decision.Decision.TheVariants as decisions;
+ghost use Rattle.model_core.specs.Kinds.{IsVariableOfKind};
 ghost use Rattle.model_core.specs.declared.variable.Base.{Base as Declared};
 ghost use Rattle.model_core.specs.declared.variable.ValueKind.{ValueKind};
 ghost use Rattle.model_core.specs.Lawful.{IsLawful};
@@ -10,13 +11,17 @@ ghost use Rattle.model_core.specs.Names.{NamesToken};
 ghost use Rattle.model_core.specs.Variables.{HasBase};
 ghost use Rattle.eu_name.specs.declared.name.TokenName.{TokenName as Token};
 ghost use Rattle.script_lang.specs.declared.command.Command.TheVariants as commands;
-ghost use Rattle.script_lang.specs.Naming.{IsVariableOfKind, SaysValue, StandsForDecision, FindsDecision, decision_command};
+ghost use Rattle.script_lang.specs.Naming.{SaysValue, StandsForDecision, FindsDecision, decision_command};
 
-use super::saying::{kind_of, value_said};
-use crate::DecisionText;
+use super::arguments::constraint_asked;
+use super::saying::value_said;
+use crate::{ArgumentText, DecisionText};
+use domain_core::kind::Kind;
 use eu_name::name::{TokenName, VarName};
 use eu_name::name_text::NameText;
+use eu_name::sequence::Sequence;
 use model_core::decision::Decision;
+use model_core::item::Rel;
 use model_core::resolve::texts_name_what_there_is;
 use plan_resolve::indexed::IndexedModel;
 use plan_resolve::resolving::{token_named, variable_named};
@@ -31,7 +36,7 @@ fn specified(model: &IndexedModel<'_>, name: VarName, word: &[u8]) -> Option<Dec
         (λ decision. (kind : ValueKind) × ((value : ℤ) × (IsVariableOfKind model.now kind name
         × SaysValue model.now kind value word.now × StandsForDecision decision (decisions.Specify name value)))) }
 {
-    let kind = kind_of(model.model(), &name);
+    let kind = model.model().kind_of(&name);
     match value_said(model, kind, word) {
         Some(value) => Some(Decision::Specify(name, value)),
         None => None,
@@ -146,6 +151,39 @@ fn order_asked(
     }
 }
 
+// What `post` asks for.
+fn post_asked(
+    model: &IndexedModel<'_>,
+    kind: Kind,
+    arguments: &Sequence<ArgumentText>,
+) -> Result<Option<Decision>, AllocError>
+    requires { IsLawful model.now }
+    ensures { IfOk result (FindsDecision model.now (commands.Post kind arguments.now)) }
+{
+    let found = constraint_asked(model, kind, arguments)?;
+    match found {
+        Some(given) => Ok(Some(Decision::Constrain(kind, given))),
+        None => Ok(None),
+    }
+}
+
+// What `relate` asks for.
+fn relate_asked(
+    model: &IndexedModel<'_>,
+    relation: Rel,
+    first: &NameText,
+    second: &NameText,
+) -> Result<Option<Decision>, AllocError>
+    requires { IsLawful model.now }
+    ensures { IfOk result (FindsDecision model.now (commands.Relate relation first.now second.now)) }
+{
+    let found = tokens_named(model, first, second)?;
+    match found {
+        Some((first, second)) => Ok(Some(Decision::Relate(relation, first, second))),
+        None => Ok(None),
+    }
+}
+
 /// The decision for which the words ask; that of a value outside the range of values stands for it.
 pub fn decision_asked(
     model: &IndexedModel<'_>,
@@ -162,5 +200,11 @@ pub fn decision_asked(
         DecisionText::Merge { token, target } => merge_asked(model, token, target),
         DecisionText::Reject { token } => reject_asked(model, token),
         DecisionText::Order { first, second } => order_asked(model, first, second),
+        DecisionText::Constrain { kind, arguments } => post_asked(model, *kind, arguments),
+        DecisionText::Relate {
+            relation,
+            first,
+            second,
+        } => relate_asked(model, *relation, first, second),
     }
 }

@@ -6,7 +6,9 @@ ghost use Rattle.script_lang.specs.Line.{AnswersWords, ReadsLine};
 ghost use Rattle.script_lang.specs.Verbs.{verb_word};
 
 use super::numbers::bounds;
-use super::operands::{name_and_value, no_word, one_name, two_names};
+use super::operands::{
+    constraint_said, name_and_value, no_word, one_name, relation_said, two_names,
+};
 use super::verb::{Verb, verb_of};
 use crate::command::{Command, LineFault};
 use crate::words::{next_word, only_word};
@@ -23,6 +25,42 @@ fn read_reset(alloc: Global, rest: &[u8]) -> Result<Command, LineFault>
         Some(_word) => one_name(alloc, rest).map(|subject| Command::Reset { subject }),
         None => two_names(alloc, rest).map(|(first, second)| Command::ResetOrder { first, second }),
     }
+}
+
+// What `post` asks for before these words.
+fn read_post(alloc: Global, rest: &[u8]) -> Result<Command, LineFault>
+    ensures { AnswersWords (codes "post" ∷ words_of rest.now) result }
+{
+    constraint_said(alloc, rest).map(|(kind, arguments)| Command::Post { kind, arguments })
+}
+
+// What `relate` asks for before these words.
+fn read_relate(alloc: Global, rest: &[u8]) -> Result<Command, LineFault>
+    ensures { AnswersWords (codes "relate" ∷ words_of rest.now) result }
+{
+    relation_said(alloc, rest).map(|(relation, (first, second))| Command::Relate {
+        relation,
+        first,
+        second,
+    })
+}
+
+// What `withdraw` asks for before these words.
+fn read_withdraw(alloc: Global, rest: &[u8]) -> Result<Command, LineFault>
+    ensures { AnswersWords (codes "withdraw" ∷ words_of rest.now) result }
+{
+    constraint_said(alloc, rest).map(|(kind, arguments)| Command::Withdraw { kind, arguments })
+}
+
+// What `unrelate` asks for before these words.
+fn read_unrelate(alloc: Global, rest: &[u8]) -> Result<Command, LineFault>
+    ensures { AnswersWords (codes "unrelate" ∷ words_of rest.now) result }
+{
+    relation_said(alloc, rest).map(|(relation, (first, second))| Command::Unrelate {
+        relation,
+        first,
+        second,
+    })
 }
 
 // What the verb asks for before these words.
@@ -44,7 +82,11 @@ fn read_command(alloc: Global, verb: Verb, rest: &[u8]) -> Result<Command, LineF
             first,
             second,
         }),
+        Verb::Post => read_post(alloc, rest),
+        Verb::Relate => read_relate(alloc, rest),
         Verb::Reset => read_reset(alloc, rest),
+        Verb::Withdraw => read_withdraw(alloc, rest),
+        Verb::Unrelate => read_unrelate(alloc, rest),
         Verb::Undo => no_word(rest).map(|()| Command::Undo),
         Verb::Domain => one_name(alloc, rest).map(|variable| Command::Domain { variable }),
         Verb::Tokens => no_word(rest).map(|()| Command::Tokens),

@@ -1,31 +1,43 @@
-//! What the words behind the first one say: names and values.
+//! What the words behind the first one say: names and values, and the arguments of constraints.
 
-ghost use Rattle.std.specs.Prelude.{◌≡◌, ◌<◌, ◌↔◌, [], All, IsTrue, IfOk, IfErr};
+ghost use Rattle.std.specs.Prelude.{◌≡◌, ◌<◌, ◌↔◌, [], All, IsTrue, IfOk, IfErr, length};
 ghost use Rattle.eu_name.specs.Spelling.{Spells};
-ghost use Rattle.script_lang.specs.Line.{IsValueWord};
+ghost use Rattle.script_lang.specs.Line.{IsArgumentWord, IsValueWord};
 ghost use Rattle.script_lang.specs.Words.{words_of};
 ghost use Rattle.script_lang.specs.declared.command.LineFault.TheVariants.{Memory};
-ghost use Rattle.script_lang.specs.Operands.{Says, Tells, IsValueOf, IsOne, AreTwo, joined};
+ghost use Rattle.script_lang.specs.Operands.{Says, Tells, IsValueOf, IsOne, AreTwo, AreArguments, AreConstraint, AreRelation, joined};
 
-use crate::command::LineFault;
+use crate::command::{ArgumentText, LineFault};
+use crate::kind_words::{constraint_named, relation_named};
 use crate::number::{is_decimal, is_number};
 use crate::words::{next_word, only_word, two_words};
+use domain_core::kind::Kind;
 use eu_name::name_text::{NameFault, NameText};
 use eu_name::reading::read_name;
+use eu_name::sequence::Sequence;
 use eu_name::text::Text;
+use model_core::item::Rel;
 use plan_text::value_words::{is_path_word, is_truth_word};
-use std::alloc::Global;
+use std::alloc::{AllocError, Global};
 
 // A text of the word.
+fn text_of(alloc: Global, word: &[u8]) -> Result<Text, AllocError>
+    requires { All (λ byte. byte < 128) word.now }
+    ensures { IfOk result (λ text. text ≡ word.now) }
+{
+    match std::str::from_utf8(word) {
+        Ok(characters) => Text::from_str(alloc, characters),
+        Err(_) => unreachable!(),
+    }
+}
+
+// The same, where a line is read.
 fn kept(alloc: Global, word: &[u8]) -> Result<Text, LineFault>
     requires { All (λ byte. byte < 128) word.now }
     ensures text { IfOk result (λ text. text ≡ word.now) }
     ensures fault { IfErr result (λ fault. fault ≡ Memory) }
 {
-    match std::str::from_utf8(word) {
-        Ok(characters) => Text::from_str(alloc, characters).map_err(|_| LineFault::Memory),
-        Err(_) => unreachable!(),
-    }
+    text_of(alloc, word).map_err(|_| LineFault::Memory)
 }
 
 // Whether the word can be a value.
@@ -107,6 +119,100 @@ pub fn name_and_value(alloc: Global, rest: &[u8]) -> Result<(NameText, Text), Li
 {
     match two_words(rest) {
         Some((name, value)) => both(name_said(alloc, name), value_said(alloc, value)),
+        None => Err(LineFault::Syntax),
+    }
+}
+
+// Whether the word can be an argument. Memory runs out only for a word that is a name.
+fn is_argument_word(alloc: Global, word: &[u8]) -> bool
+    ensures { IsTrue result ↔ IsArgumentWord word.now }
+{
+    match read_name(alloc, word) {
+        Ok(_name) => true,
+        Err(NameFault::Memory) => true,
+        Err(NameFault::Syntax) => is_value_word(word),
+    }
+}
+
+// Whether each word can be an argument.
+fn are_argument_words(alloc: Global, words: &[u8]) -> bool
+    ensures { IsTrue result ↔ All IsArgumentWord (words_of words.now) }
+{
+    let mut rest = words;
+    while let Some((word, behind)) = next_word(rest) {
+        if !is_argument_word(alloc, word) {
+            return false;
+        }
+        rest = behind;
+    }
+    true
+}
+
+// Whether the words can be the arguments of a constraint, which are one or more.
+fn can_be_arguments(alloc: Global, words: &[u8]) -> bool
+    ensures { IsTrue result ↔ ((0 < length (words_of words.now)) × All IsArgumentWord (words_of words.now)) }
+{
+    next_word(words).is_some() && are_argument_words(alloc, words)
+}
+
+// The words, each in memory of its own.
+fn texts_of(alloc: Global, words: &[u8]) -> Result<Sequence<ArgumentText>, AllocError>
+    requires { All IsArgumentWord (words_of words.now) }
+    ensures { IfOk result (λ texts. texts ≡ words_of words.now) }
+{
+    let mut texts = Sequence::new(alloc);
+    let mut rest = words;
+    while let Some((word, behind)) = next_word(rest) {
+        texts.push(text_of(alloc, word)?)?;
+        rest = behind;
+    }
+    Ok(texts)
+}
+
+// The same, where a line is read.
+fn all_kept(alloc: Global, words: &[u8]) -> Result<Sequence<ArgumentText>, LineFault>
+    requires { All IsArgumentWord (words_of words.now) }
+    ensures texts { IfOk result (λ texts. texts ≡ words_of words.now) }
+    ensures fault { IfErr result (λ fault. fault ≡ Memory) }
+{
+    texts_of(alloc, words).map_err(|_| LineFault::Memory)
+}
+
+// The arguments that the words are, as they are written.
+fn arguments_said(alloc: Global, words: &[u8]) -> Result<Sequence<ArgumentText>, LineFault>
+    ensures { Says (AreArguments (words_of words.now)) result }
+{
+    if !can_be_arguments(alloc, words) {
+        return Err(LineFault::Syntax);
+    }
+    all_kept(alloc, words)
+}
+
+/// The constraint that the first word is, and its arguments, one or more.
+pub fn constraint_said(
+    alloc: Global,
+    rest: &[u8],
+) -> Result<(Kind, Sequence<ArgumentText>), LineFault>
+    ensures { Says (AreConstraint (words_of rest.now)) result }
+{
+    let Some((word, behind)) = next_word(rest) else {
+        return Err(LineFault::Syntax);
+    };
+    match constraint_named(word) {
+        Some(kind) => arguments_said(alloc, behind).map(|arguments| (kind, arguments)),
+        None => Err(LineFault::Syntax),
+    }
+}
+
+/// The relation that the first word is, and the two names behind it.
+pub fn relation_said(alloc: Global, rest: &[u8]) -> Result<(Rel, (NameText, NameText)), LineFault>
+    ensures { Says (AreRelation (words_of rest.now)) result }
+{
+    let Some((word, behind)) = next_word(rest) else {
+        return Err(LineFault::Syntax);
+    };
+    match relation_named(word) {
+        Some(relation) => two_names(alloc, behind).map(|names| (relation, names)),
         None => Err(LineFault::Syntax),
     }
 }

@@ -1,73 +1,16 @@
-//! Of which kind variables are, and what words say of values.
+//! What words say of values.
 
 ghost use Rattle.std.specs.Prelude.{◌≡◌, ℤ, MatchOption};
 ghost use Rattle.domain_core.specs.Domain.{IsValue};
-ghost use Rattle.model_core.specs.declared.variable.Base.{Base as Declared};
-ghost use Rattle.model_core.specs.declared.variable.ValueKind.{ValueKind};
-ghost use Rattle.model_core.specs.declared.variable.VarDecl.{VarDecl};
-ghost use Rattle.model_core.specs.Kinds.{IsPartOfKind};
 ghost use Rattle.model_core.specs.Lawful.{IsLawful};
-ghost use Rattle.model_core.specs.Variables.{HasBase, HasParameter, IsGlobal};
 ghost use Rattle.script_lang.specs.Number.{IsSignedNumber, SaysThousandths, signed_value};
-ghost use Rattle.script_lang.specs.Naming.{IsVariableOfKind, SaysValue, StandsFor};
+ghost use Rattle.script_lang.specs.Naming.{SaysValue, StandsFor};
 
 use crate::number::{self, decimal_parts, is_number, thousandths_of};
 use domain_core::domain::GREATEST_VALUE;
-use eu_name::name::{Part, VarName};
-use model_core::model::Model;
 use model_core::variable::ValueKind;
 use plan_resolve::indexed::IndexedModel;
 use plan_resolve::values;
-use plan_text::names::{local_kind, pred_of};
-
-// The kind of a global that the model has.
-fn global_kind(model: &Model, number: u32) -> ValueKind
-    requires { (variable : VarDecl) × IsGlobal model.now number variable }
-    ensures { (variable : VarDecl) × (IsGlobal model.now number variable × (result ≡ variable.kind)) }
-{
-    let variable = &model.problem.globals.as_slice()[number as usize];
-    variable.kind
-}
-
-// The kind of a parameter that the predicate has.
-fn param_kind(model: &Model, pred: u32, number: u16) -> ValueKind
-    requires { (variable : VarDecl) × HasParameter model.now pred number variable }
-    ensures { (variable : VarDecl) × HasParameter model.now pred number variable × (result ≡ variable.kind) }
-{
-    let found = &model.preds.as_slice()[pred as usize];
-    let variable = &found.params.as_slice()[usize::from(number)];
-    variable.kind
-}
-
-// The kind of a part that tokens of the predicate have.
-fn part_kind(model: &Model, pred: u32, part: Part) -> ValueKind
-    requires { (kind : ValueKind) × IsPartOfKind model.now pred kind part }
-    ensures { IsPartOfKind model.now pred result part }
-{
-    match part {
-        Part::Start => ValueKind::Int,
-        Part::End => ValueKind::Int,
-        Part::Duration => ValueKind::Int,
-        Part::Object => ValueKind::Object,
-        Part::Param(number) => param_kind(model, pred, number),
-    }
-}
-
-/// The kind of a variable that the model has.
-pub fn kind_of(model: &Model, name: &VarName) -> ValueKind
-    requires { (base : Declared) × HasBase model.now name.now base }
-    ensures { IsVariableOfKind model.now result name.now }
-{
-    match name {
-        VarName::Global(number) => global_kind(model, *number),
-        VarName::Token(token, part) => part_kind(model, pred_of(model, token), *part),
-        VarName::Local {
-            token,
-            rule,
-            number,
-        } => local_kind(model, token, *rule, *number),
-    }
-}
 
 // The value; where there is none in the range of values, one outside of it, which stands for all of those.
 fn or_outside(value: Option<i32>) -> i32

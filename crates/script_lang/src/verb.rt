@@ -16,8 +16,16 @@ pub enum Verb {
     Reject,
     /// `order`
     Order,
+    /// `post`
+    Post,
+    /// `relate`
+    Relate,
     /// `reset`, before one name or two
     Reset,
+    /// `withdraw`
+    Withdraw,
+    /// `unrelate`
+    Unrelate,
     /// `undo`
     Undo,
     /// `domain`
@@ -39,13 +47,17 @@ pub enum Verb {
 }
 
 /// All of them.
-const VERBS: [Verb; 15] = [
+const VERBS: [Verb; 19] = [
     Verb::Specify,
     Verb::Activate,
     Verb::Merge,
     Verb::Reject,
     Verb::Order,
+    Verb::Post,
+    Verb::Relate,
     Verb::Reset,
+    Verb::Withdraw,
+    Verb::Unrelate,
     Verb::Undo,
     Verb::Domain,
     Verb::Tokens,
@@ -68,7 +80,11 @@ impl Verb {
             Verb::Merge => b"merge",
             Verb::Reject => b"reject",
             Verb::Order => b"order",
+            Verb::Post => b"post",
+            Verb::Relate => b"relate",
             Verb::Reset => b"reset",
+            Verb::Withdraw => b"withdraw",
+            Verb::Unrelate => b"unrelate",
             Verb::Undo => b"undo",
             Verb::Domain => b"domain",
             Verb::Tokens => b"tokens",

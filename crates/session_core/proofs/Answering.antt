@@ -15,7 +15,8 @@ use Rattle.eu_name.proofs.Ordered.{contains_head}
 use Rattle.plan_defs.proofs.Settling.{history_settled, least_not_collapsed}
 use Rattle.law_states.specs.Soundness.{StatesHaveOnePlan}
 use Rattle.script_lang.specs.declared.command.Command.{Command}
-use Rattle.script_lang.specs.declared.command.Command.TheVariants.{Empty, Specify, Activate, Merge, Reject, Order, Reset, ResetOrder}
+use Rattle.script_lang.specs.declared.command.Command.TheVariants.{Empty, Specify, Activate, Merge, Reject, Order, Post, Relate}
+use Rattle.script_lang.specs.declared.command.Command.TheVariants.{Reset, ResetOrder, Withdraw, Unrelate}
 use Rattle.script_lang.specs.declared.command.Command.TheVariants as commands
 use Rattle.script_lang.specs.declared.command.LineFault.{LineFault}
 use Rattle.script_lang.specs.declared.command.LineFault.TheVariants as line
@@ -87,8 +88,12 @@ module _ (one_plan : StatesHaveOnePlan) (old : Database) (lawful : IsLawful old.
   reply_once (Merge token target) bound = taking_once (Merge token target)
   reply_once (Reject token) bound = taking_once (Reject token)
   reply_once (Order first second) bound = taking_once (Order first second)
+  reply_once (Post kind arguments) bound = taking_once (Post kind arguments)
+  reply_once (Relate relation first second) bound = taking_once (Relate relation first second)
   reply_once (Reset subject) bound = resetting_once (Reset subject)
   reply_once (ResetOrder first second) bound = resetting_once (ResetOrder first second)
+  reply_once (Withdraw kind arguments) bound = resetting_once (Withdraw kind arguments)
+  reply_once (Unrelate relation first second) bound = resetting_once (Unrelate relation first second)
   reply_once commands.Undo bound = step_once (UndoesLast old) (undoing_one old)
   reply_once (commands.Domain variable) bound =
       state_once (TellsDomain old.model variable) (λ state one other least p q. domain_told_one old.model lawful variable state one other (least_order old state least) p q)

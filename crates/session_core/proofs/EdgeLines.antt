@@ -12,7 +12,7 @@ use Rattle.eu_name.specs.declared.name.TokenName.{TokenName}
 use Rattle.eu_name.specs.declared.name.VarName.TheVariants.{Token}
 use Rattle.eu_name.proofs.Ordered.{contains_head, contains_later, contains_cases, contains_none}
 use Rattle.model_core.specs.declared.decision.Decision.{Decision}
-use Rattle.model_core.specs.declared.decision.Decision.TheVariants.{Specify, Activate, Merge, Reject, Order}
+use Rattle.model_core.specs.declared.decision.Decision.TheVariants.{Specify, Activate, Merge, Reject, Order, Constrain, Relate}
 use Rattle.model_core.specs.declared.item.Item.{Item}
 use Rattle.model_core.specs.declared.item.Item.TheVariants.{Constraint, Relation}
 use Rattle.model_core.specs.declared.model.Model.{Model}
@@ -20,7 +20,7 @@ use Rattle.model_core.specs.History.{standing}
 use Rattle.model_core.specs.Lawful.{IsLawful, IsToken}
 use Rattle.model_core.specs.State.{State}
 use Rattle.model_core.specs.Tokens.{IsFact, Reaches, slot_of, slot_token}
-use Rattle.plan_defs.specs.Claims.{Claim, relates}
+use Rattle.plan_defs.specs.Claims.{Claim, posted_claim, relates}
 use Rattle.plan_defs.specs.Terms.{Context, InProblem, InRule, Argument, Variable}
 use Rattle.plan_db.specs.Database.{Database, IsSound}
 use Rattle.plan_db.specs.Edges.{AreStandingEdges}
@@ -30,7 +30,7 @@ use Rattle.db_edges.specs.declared.edge.Point.TheVariants.{Origin, Start, End}
 use Rattle.db_edges.specs.declared.walking.Sort.{Sort}
 use Rattle.db_edges.specs.declared.walking.Sort.TheVariants.{Relations, Constraints}
 use Rattle.db_edges.specs.Edges.{AppendsEach, HasLastingEdges, HasGivenEdges, HasTimesGiven, edge_from, comparing_edges}
-use Rattle.db_edges.specs.Edges.{ComparesPoints, HasClaimEdges, HasRelationEdges, HasConstraintEdges, HasOrderEdges}
+use Rattle.db_edges.specs.Edges.{ComparesPoints, HasClaimEdges, HasRelationEdges, HasConstraintEdges, HasOrderEdges, HasPostedEdges}
 use Rattle.db_edges.specs.Points.{ActsAs, IsMoment, IsPointOf, IsArgumentPoint}
 use Rattle.db_edges.specs.TimeCycle.{LeavesBy, IsTimeCycle}
 use Rattle.db_edges.specs.Whole.{TokenItem, items_of_rules, HasSortEdges, HasOpenEdges, HasTokenEdges, AreTimeEdges}
@@ -135,6 +135,14 @@ module _ (model : Model) where
     order_are (Activate token) edges there is = subst (AreWritable model) (sym is) none_are
     order_are (Merge token target) edges there is = subst (AreWritable model) (sym is) none_are
     order_are (Reject token) edges there is = subst (AreWritable model) (sym is) none_are
+    order_are (Constrain kind arguments) edges there is = subst (AreWritable model) (sym is) none_are
+    order_are (Relate relation one other) edges there is = subst (AreWritable model) (sym is) none_are
+
+    posted_are : (decision : Decision) (edges : List NamedEdge) → HasPostedEdges model decisions decision edges → AreWritable model edges
+    posted_are (Constrain kind arguments) edges is = claim_are (posted_claim kind arguments) edges is
+    posted_are (Relate relation one other) edges is =
+        all_are (HasClaimEdges model decisions) (relates relation one other) edges (λ claim found there has. claim_are claim found has) is
+    posted_are decision edges is = subst (AreWritable model) (sym is) none_are
 
     given_are : (token : TokenName) (which : Part) (edges : List NamedEdge) → HasGivenEdges model decisions token which edges → AreWritable model edges
     given_are token which edges (inl (value, point, given, is)) =
@@ -185,12 +193,14 @@ module _ (model : Model) where
           let problem = all_are (HasConstraintEdges model decisions InProblem) model.problem.items is.problem (λ item found among has. constraint_are InProblem item found has) is.problem_are in
           let constrained = all_are (HasTokenEdges Constraints model decisions state) state.tokens is.constrained (λ token found among has. token_are Constraints token found has) is.constrained_are in
           let ordered = all_are HasOrderEdges decisions is.ordered order_are is.ordered_are in
+          let posted = all_are (HasPostedEdges model decisions) decisions is.posted (λ decision found among has. posted_are decision found has) is.posted_are in
           subst (AreWritable model) (sym is.all)
-          (both_are is.lasting (is.given ++ (is.related ++ (is.problem ++ (is.constrained ++ is.ordered)))) lasting
-          (both_are is.given (is.related ++ (is.problem ++ (is.constrained ++ is.ordered))) given
-          (both_are is.related (is.problem ++ (is.constrained ++ is.ordered)) related
-          (both_are is.problem (is.constrained ++ is.ordered) problem
-          (both_are is.constrained is.ordered constrained ordered)))))
+          (both_are is.lasting (is.given ++ (is.related ++ (is.problem ++ (is.constrained ++ (is.ordered ++ is.posted))))) lasting
+          (both_are is.given (is.related ++ (is.problem ++ (is.constrained ++ (is.ordered ++ is.posted)))) given
+          (both_are is.related (is.problem ++ (is.constrained ++ (is.ordered ++ is.posted))) related
+          (both_are is.problem (is.constrained ++ (is.ordered ++ is.posted)) problem
+          (both_are is.constrained (is.ordered ++ is.posted) constrained
+          (both_are is.ordered is.posted ordered posted))))))
 
 -- ---- a database
 

@@ -19,7 +19,7 @@ use Rattle.model_core.specs.State.{State, AreInOrder}
 use Rattle.model_core.specs.Tokens.{slot_token}
 use Rattle.plan_db.specs.Database.{Database}
 use Rattle.plan_db.specs.Edges.{AreStandingEdges}
-use Rattle.plan_defs.specs.Claims.{Claim, relates}
+use Rattle.plan_defs.specs.Claims.{Claim, posted_claim, relates}
 use Rattle.plan_defs.specs.Settling.{IsSettled}
 use Rattle.plan_defs.specs.Terms.{Context, InProblem, InRule, Argument, Variable, Means}
 use Rattle.plan_defs.proofs.Meanings.{means_once}
@@ -32,7 +32,7 @@ use Rattle.db_edges.specs.declared.edge.Point.TheVariants.{Origin}
 use Rattle.db_edges.specs.declared.walking.Sort.{Sort}
 use Rattle.db_edges.specs.declared.walking.Sort.TheVariants.{Relations, Constraints}
 use Rattle.db_edges.specs.Edges.{AppendsEach, LastsBetween, HasLastingEdges, lasting_edges, HasGivenEdges, HasTimesGiven, comparing_edges, edge_from}
-use Rattle.db_edges.specs.Edges.{ComparesPoints, HasClaimEdges, HasRelationEdges, HasConstraintEdges, HasOrderEdges}
+use Rattle.db_edges.specs.Edges.{ComparesPoints, HasClaimEdges, HasRelationEdges, HasConstraintEdges, HasOrderEdges, HasPostedEdges}
 use Rattle.db_edges.specs.Points.{ActsAs, IsMoment, IsPointOf, IsArgumentPoint}
 use Rattle.db_edges.specs.Whole.{TokenItem, items_of_rules, AreRulesOf, HasSortEdges, HasOpenEdges, HasTokenEdges, AreTimeEdges}
 use Rattle.db_history.specs.Advancing.{but_last}
@@ -138,6 +138,14 @@ module _ (model : Model) (decisions : List Decision) (settled : IsSettled model 
   order_one (decision.Activate token) one other p q = p ∙ sym q
   order_one (decision.Merge token target) one other p q = p ∙ sym q
   order_one (decision.Reject token) one other p q = p ∙ sym q
+  order_one (decision.Constrain kind arguments) one other p q = p ∙ sym q
+  order_one (decision.Relate relation first second) one other p q = p ∙ sym q
+
+  posted_one : (which : Decision) (one other : List NamedEdge) → HasPostedEdges model decisions which one → HasPostedEdges model decisions which other → one ≡ other
+  posted_one (decision.Constrain kind arguments) one other p q = claim_one (posted_claim kind arguments) one other p q
+  posted_one (decision.Relate relation first second) one other p q =
+      appends_one (HasClaimEdges model decisions) claim_one (relates relation first second) one other p q
+  posted_one which one other p q = p ∙ sym q
 
   given_one : (token : TokenName) (which : Part) (one other : List NamedEdge) → HasGivenEdges model decisions token which one → HasGivenEdges model decisions token which other → one ≡ other
   given_one token which one other (inl (value, point, given, is)) (inl (value', point', given', is')) =
@@ -205,8 +213,9 @@ module _ (model : Model) (decisions : List Decision) (settled : IsSettled model 
         let problem = appends_one (HasConstraintEdges model decisions InProblem) (constraint_one InProblem) model.problem.items p.problem q.problem p.problem_are q.problem_are in
         let constrained = appends_one (HasTokenEdges Constraints model decisions state) (token_edges_one Constraints) state.tokens p.constrained q.constrained p.constrained_are q.constrained_are in
         let ordered = appends_one HasOrderEdges order_one decisions p.ordered q.ordered p.ordered_are q.ordered_are in
-        let both : p.lasting ++ (p.given ++ (p.related ++ (p.problem ++ (p.constrained ++ p.ordered)))) ≡ q.lasting ++ (q.given ++ (q.related ++ (q.problem ++ (q.constrained ++ q.ordered)))) =
-        λ i. lasting i ++ (given i ++ (related i ++ (problem i ++ (constrained i ++ ordered i)))) in
+        let posted = appends_one (HasPostedEdges model decisions) posted_one decisions p.posted q.posted p.posted_are q.posted_are in
+        let both : p.lasting ++ (p.given ++ (p.related ++ (p.problem ++ (p.constrained ++ (p.ordered ++ p.posted))))) ≡ q.lasting ++ (q.given ++ (q.related ++ (q.problem ++ (q.constrained ++ (q.ordered ++ q.posted))))) =
+        λ i. lasting i ++ (given i ++ (related i ++ (problem i ++ (constrained i ++ (ordered i ++ posted i))))) in
         p.all ∙ (both ∙ sym q.all)
 
 -- so has a database

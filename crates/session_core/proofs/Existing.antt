@@ -42,7 +42,8 @@ use Rattle.law_search.proofs.Choosing.{flaws_have_choices}
 use Rattle.law_search.proofs.CountingTokens.{cut_at}
 use Rattle.law_search.proofs.Firsts.{first_flaw_or_none}
 use Rattle.script_lang.specs.declared.command.Command.{Command}
-use Rattle.script_lang.specs.declared.command.Command.TheVariants.{Empty, Specify, Activate, Merge, Reject, Order, Reset, ResetOrder}
+use Rattle.script_lang.specs.declared.command.Command.TheVariants.{Empty, Specify, Activate, Merge, Reject, Order, Post, Relate}
+use Rattle.script_lang.specs.declared.command.Command.TheVariants.{Reset, ResetOrder, Withdraw, Unrelate}
 use Rattle.script_lang.specs.declared.command.Command.TheVariants as commands
 use Rattle.script_lang.specs.Naming.{AsksDecision}
 use Rattle.session_replies.specs.Lines.{with_line_feed, counted_lines, IsTokenLine, IsDecisionLine}
@@ -291,8 +292,12 @@ module _ (old : Database) (sound : IsSound old) where
   plain_reply (Merge token target) plain none = taking (Merge token target) none
   plain_reply (Reject token) plain none = taking (Reject token) none
   plain_reply (Order first second) plain none = taking (Order first second) none
+  plain_reply (Post kind arguments) plain none = taking (Post kind arguments) none
+  plain_reply (Relate relation first second) plain none = taking (Relate relation first second) none
   plain_reply (Reset subject) plain none = resetting (Reset subject) none
   plain_reply (ResetOrder first second) plain none = resetting (ResetOrder first second) none
+  plain_reply (Withdraw kind arguments) plain none = resetting (Withdraw kind arguments) none
+  plain_reply (Unrelate relation first second) plain none = resetting (Unrelate relation first second) none
   plain_reply commands.Undo plain none = step_reply (UndoesLast old) (undoes old.model old.history sound.lawful sound.history) none
   plain_reply (commands.Domain variable) plain none =
       keeping (TellsState (TellsDomain old.model variable)) (state_told (TellsDomain old.model variable) (λ state least. domain_told state least variable)) none

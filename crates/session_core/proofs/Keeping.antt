@@ -5,7 +5,8 @@ use Rattle.plan_db.specs.Database.{Database}
 use Rattle.plan_db.specs.declared.fault.Outcome.{Outcome}
 use Rattle.law_search.specs.Search.{SearchOutcome}
 use Rattle.script_lang.specs.declared.command.Command.{Command}
-use Rattle.script_lang.specs.declared.command.Command.TheVariants.{Empty, Specify, Activate, Merge, Reject, Order, Reset, ResetOrder}
+use Rattle.script_lang.specs.declared.command.Command.TheVariants.{Empty, Specify, Activate, Merge, Reject, Order, Post, Relate}
+use Rattle.script_lang.specs.declared.command.Command.TheVariants.{Reset, ResetOrder, Withdraw, Unrelate}
 use Rattle.script_lang.specs.declared.command.Command.TheVariants as commands
 use Rattle.flaw_core.specs.declared.ending.SearchEnd.{SearchEnd}
 use Rattle.flaw_core.specs.declared.ending.SearchEnd.TheVariants.{Found, Exhausted, Budget}
@@ -63,8 +64,12 @@ module _ (old new : Database) where
   replies_keep (Merge token target) reply replied = taking (Merge token target) reply replied
   replies_keep (Reject token) reply replied = taking (Reject token) reply replied
   replies_keep (Order first second) reply replied = taking (Order first second) reply replied
+  replies_keep (Post kind arguments) reply replied = taking (Post kind arguments) reply replied
+  replies_keep (Relate relation first second) reply replied = taking (Relate relation first second) reply replied
   replies_keep (Reset subject) reply replied = resetting (Reset subject) reply replied
   replies_keep (ResetOrder first second) reply replied = resetting (ResetOrder first second) reply replied
+  replies_keep (Withdraw kind arguments) reply replied = resetting (Withdraw kind arguments) reply replied
+  replies_keep (Unrelate relation first second) reply replied = resetting (Unrelate relation first second) reply replied
   replies_keep commands.Undo reply replied = undoes_keep replied.0 replied.1.0
   replies_keep (commands.Domain variable) reply replied = same_model replied.1
   replies_keep commands.Tokens reply replied = same_model replied.1

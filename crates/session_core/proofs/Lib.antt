@@ -1,3 +1,4 @@
+mod StandIns
 mod Stepping
 mod Decisions
 mod Searches

@@ -1,7 +1,8 @@
 -- Each thing has one line.
-use Rattle.std.proofs.Common.{◌≡◌, ℕ, ℤ, List, ◌++◌, Some, slice_get, refl, sym, ap, ◌∙◌, subst, inl, inr, get_or}
+use Rattle.std.proofs.Common.{◌≡◌, ℕ, ℤ, List, [], ◌∷◌, ◌++◌, Option, Some, None, slice_get, refl, sym, ap, ◌∙◌, subst, inl, inr, get_or}
 use Rattle.std.specs.Prelude.{codes}
 use Rattle.std.specs.Fmt.{decimal, signed_decimal}
+use Rattle.domain_core.specs.declared.kind.Kind.{Kind}
 use Rattle.domain_core.specs.Domain.{Domain, Range, Set}
 use Rattle.eu_name.specs.declared.name.Part.TheVariants as parts
 use Rattle.eu_name.specs.declared.name.TokenName.{TokenName}
@@ -11,7 +12,9 @@ use Rattle.eu_name.specs.NameOrder.{IsTokenBefore}
 use Rattle.eu_name.proofs.Orders.{token_order}
 use Rattle.model_core.specs.declared.class.Pred.{Pred}
 use Rattle.model_core.specs.declared.decision.Decision.{Decision}
-use Rattle.model_core.specs.declared.decision.Decision.TheVariants.{Specify, Activate, Merge, Reject, Order}
+use Rattle.model_core.specs.declared.decision.ConArg.{ConArg}
+use Rattle.model_core.specs.declared.decision.ConArg.TheVariants.{Var, Value}
+use Rattle.model_core.specs.declared.decision.Decision.TheVariants.{Specify, Activate, Merge, Reject, Order, Constrain, Relate}
 use Rattle.model_core.specs.declared.model.Model.{Model}
 use Rattle.model_core.specs.declared.rule.Slot.{Slot}
 use Rattle.model_core.specs.declared.variable.ValueKind.{ValueKind}
@@ -30,8 +33,11 @@ use Rattle.db_edges.specs.declared.edge.Point.TheVariants as points
 use Rattle.plan_defs.specs.Flaws.{Flaw, Undecided, Undetermined, Unordered, Untimed}
 use Rattle.plan_defs.proofs.Deciding.{DecidesOnce}
 use Rattle.session_replies.specs.Lines.{spaced, IsTokenWord, IsDomainText, IsDomainLine, IsStateText, IsTokenLine, IsLineOnToken, IsLineOnTokens, IsLineOnVariable, IsDecisionLine}
-use Rattle.session_replies.specs.Lines.{IsPointWord, IsEdgeLine, IsFlawText, IsFlawLine}
-use Rattle.script_lang.proofs.Kinding.{kind_once}
+use Rattle.session_replies.specs.Lines.{IsArgumentText, IsPostLine, IsPointWord, IsEdgeLine, IsFlawText, IsFlawLine}
+use Rattle.script_lang.specs.Compared.{compared, IsFirstKind, kind_at, AllPlaced}
+use Rattle.script_lang.specs.KindWords.{constraint_word, relation_word}
+use Rattle.script_lang.proofs.Placed.{placed_zip, zip_same}
+use Rattle.model_core.proofs.Kinding.{kind_once}
 use Rattle.session_core.proofs.Words.{zip_one, value_text_one, token_word_one, variable_word_one}
 
 module _ (model : Model) where
@@ -149,12 +155,34 @@ module _ (model : Model) where
       λ i. first ++ (codes " " ++ (words i ++ (codes " " ++ texts i))) in
       whole ∙ (both ∙ sym whole')
 
+  first_kind_one : (arguments : List ConArg) (one other : Option ValueKind) → IsFirstKind model arguments one → IsFirstKind model arguments other → one ≡ other
+  first_kind_one [] one other p q = p ∙ sym q
+  first_kind_one (Var name ∷ arguments) one other (kind, (of, is)) (kind', (of', is')) = is ∙ (ap Some (kind_once model name kind kind' of of') ∙ sym is')
+  first_kind_one (Value value ∷ arguments) one other p q = first_kind_one arguments one other p q
+
+  argument_text_one : (kind : Option ValueKind) (argument : ConArg) (one other : List ℕ) → IsArgumentText model kind argument one → IsArgumentText model kind argument other → one ≡ other
+  argument_text_one kind (Var name) one other p q = variable_word_one model name one other p q
+  argument_text_one (Some kind) (Value value) one other p q = value_text_one model kind value one other p q
+  argument_text_one None (Value value) one other p q = absurd p
+
+  post_line_one : (kind : Kind) (arguments : List ConArg) (one other : List ℕ) → IsPostLine model kind arguments one → IsPostLine model kind arguments other → one ≡ other
+  post_line_one kind arguments one other p q =
+      let kinds = first_kind_one (compared kind arguments) q.among p.among q.is_among p.is_among in
+      let are = subst (λ (among : Option ValueKind). AllPlaced (λ place. IsArgumentText model (kind_at kind among place)) 0 arguments q.words) kinds q.are in
+      let zip = placed_zip (λ place. IsArgumentText model (kind_at kind p.among place)) (λ place. IsArgumentText model (kind_at kind p.among place)) ◌≡◌
+      (λ place. argument_text_one (kind_at kind p.among place)) 0 arguments p.words q.words p.are are in
+      let words = zip_same p.words q.words zip in
+      p.whole ∙ (ap (λ (shown : List (List ℕ)). spaced (codes "post" ∷ constraint_word kind ∷ shown)) words ∙ sym q.whole)
+
   pub decision_line_one : (decision : Decision) (one other : List ℕ) → IsDecisionLine model decision one → IsDecisionLine model decision other → one ≡ other
   decision_line_one (Specify name value) one other p q = on_variable_one (codes "specify") name value one other p q
   decision_line_one (Activate token) one other p q = on_token_one (codes "activate") token one other p q
   decision_line_one (Merge token target) one other p q = on_tokens_one (codes "merge") token target one other p q
   decision_line_one (Reject token) one other p q = on_token_one (codes "reject") token one other p q
   decision_line_one (Order first second) one other p q = on_tokens_one (codes "order") first second one other p q
+  decision_line_one (Constrain kind arguments) one other p q = post_line_one kind arguments one other p q
+  decision_line_one (Relate relation first second) one other (rest, (is, whole)) (rest', (is', whole')) =
+      whole ∙ (ap (λ (r : List ℕ). codes "relate " ++ r) (on_tokens_one (relation_word relation) first second rest rest' is is') ∙ sym whole')
 
   -- ---- time edges
 

@@ -4,13 +4,14 @@ use Rattle.std.specs.Prelude.{Contains}
 use Rattle.std.proofs.lemmas.List.Elements.{Contains-push_cases}
 use Rattle.eu_name.specs.declared.name.TokenName.{TokenName}
 use Rattle.eu_name.specs.declared.name.VarName.{VarName}
+use Rattle.model_core.specs.declared.decision.ConArg.{ConArg}
 use Rattle.model_core.specs.declared.decision.Decision.{Decision}
 use Rattle.model_core.specs.declared.decision.Decision.TheVariants as decisions
 use Rattle.model_core.specs.declared.model.Model.{Model}
 use Rattle.model_core.specs.Decided.{IsDecided}
 use Rattle.model_core.specs.History.{standing}
 use Rattle.model_core.specs.Lawful.{IsLawful}
-use Rattle.plan_db.specs.Database.{Database, OutcomeIs, Resets, TakesOutOn, HasDecisionOn}
+use Rattle.plan_db.specs.Database.{Database, OutcomeIs, Resets, TakesOutOn}
 use Rattle.plan_db.specs.declared.fault.Outcome.{Outcome}
 use Rattle.plan_defs.specs.Refusals.{IsAlreadyDecided}
 use Rattle.model_core.specs.declared.refusal.Refusal.TheVariants.{Decided}
@@ -24,6 +25,7 @@ use Rattle.script_lang.specs.declared.command.Command.{Command}
 use Rattle.session_core.specs.declared.reason.RefusalReason.{RefusalReason}
 use Rattle.session_core.specs.declared.reason.RefusalReason.TheVariants as reason
 use Rattle.session_core.specs.Replies.{ResetsAsked, UndoesLast}
+use Rattle.session_core.proofs.StandIns.{stood_on}
 use Rattle.session_core.proofs.Taking.{outcome_one}
 use Rattle.session_core.proofs.Words.{subject_one}
 
@@ -106,6 +108,20 @@ module _ (model : Model) where
       subst (λ t. Contains kept (decisions.Order one t)) seconds (subst (λ t. Contains kept (decisions.Order t four)) firsts there)
   already_on kept (subjects.Order first second) (decisions.Order one two) other is is' there = absurd is'
   already_on kept (subjects.Order first second) decision other is is' there = absurd is
+  already_on kept (subjects.Constraint kind arguments) (decisions.Constrain one given) (decisions.Constrain two given') is is' there =
+      let kinds : two ≡ one = is'.0 ∙ sym is.0 in
+      let lists : given' ≡ given = is'.1 ∙ sym is.1 in
+      subst (λ (l : List ConArg). Contains kept (decisions.Constrain one l)) lists (subst (λ k. Contains kept (decisions.Constrain k given')) kinds there)
+  already_on kept (subjects.Constraint kind arguments) (decisions.Constrain one given) other is is' there = absurd is'
+  already_on kept (subjects.Constraint kind arguments) decision other is is' there = absurd is
+  already_on kept (subjects.Relation relation first second) (decisions.Relate r one two) (decisions.Relate s three four) is is' there =
+      let relations : s ≡ r = is'.0 ∙ sym is.0 in
+      let firsts : three ≡ one = is'.1 ∙ sym is.1 in
+      let seconds : four ≡ two = is'.2 ∙ sym is.2 in
+      subst (λ t. Contains kept (decisions.Relate r one t)) seconds
+      (subst (λ t. Contains kept (decisions.Relate r t four)) firsts (subst (λ k. Contains kept (decisions.Relate k three four)) relations there))
+  already_on kept (subjects.Relation relation first second) (decisions.Relate r one two) other is is' there = absurd is'
+  already_on kept (subjects.Relation relation first second) decision other is is' there = absurd is
 
   module _ (subject : Subject) where
     settled_from : (kept decisions settled : List Decision) → AtMostOne (IsOfSubject subject) kept → SettlesAfter model kept decisions settled → AtMostOne (IsOfSubject subject) settled
@@ -140,18 +156,14 @@ module _ (old : Database) (lawful : IsLawful old.model) (settled : IsSettled old
       let news : new ≡ next = λ i. record { model = models i; history = histories i } in
       (outcome_one next one other (subst (λ d. OutcomeIs d one) news p.3) q.3, news)
 
-  not_none : (subject : Subject) (found : Outcome) (new : Database) → Resets old subject (Ok found) new → HasDecisionOn old subject
-  not_none subject found new p =
-      (p.2.decision, subst (λ (list : List Decision). Contains list p.2.decision) (sym p.2.parts) (amid (IsOfSubject subject) p.2.front p.2.decision p.2.back), p.2.on)
-
   pub resetting_one : (one other : Result Outcome RefusalReason) (new next : Database) → ResetsAsked old command one new → ResetsAsked old command other next → (one ≡ other) × (new ≡ next)
   resetting_one (Ok one) (Ok other) new next (subject, (asks, resets)) (subject', (asks', resets')) =
       let subjects = subject_one old.model lawful command subject' subject asks' asks in
       let both = reset_one subject one other new next resets (subst (λ s. Resets old s (Ok other) next) subjects resets') in
       (ap (λ (found : Outcome). Ok found) both.0, both.1)
-  resetting_one (Ok one) (Err reason.NoDecision) new next p q = absurd (q.0 p.0 p.1.0 (not_none p.0 one new p.1.1))
+  resetting_one (Ok one) (Err reason.NoDecision) new next p q = absurd (q.0 p.0 p.1.0 (stood_on old new p.0 one p.1.1))
   resetting_one (Ok one) (Err why) new next p q = absurd q
-  resetting_one (Err reason.NoDecision) (Ok other) new next p q = absurd (p.0 q.0 q.1.0 (not_none q.0 other next q.1.1))
+  resetting_one (Err reason.NoDecision) (Ok other) new next p q = absurd (p.0 q.0 q.1.0 (stood_on old next q.0 other q.1.1))
   resetting_one (Err reason.NoDecision) (Err reason.NoDecision) new next p q = (refl, p.1 ∙ sym q.1)
   resetting_one (Err reason.NoDecision) (Err why) new next p q = absurd q
   resetting_one (Err why) other new next p q = absurd p

@@ -5,6 +5,7 @@ use Rattle.std.specs.declared.alloc.AllocError.{AllocError}
 use Rattle.eu_name.specs.declared.name.TokenName.{TokenName}
 use Rattle.eu_name.specs.declared.name.VarName.{VarName}
 use Rattle.eu_name.specs.declared.name_text.NameText.{NameText}
+use Rattle.model_core.specs.declared.item.Rel.{Rel}
 use Rattle.model_core.specs.declared.model.Model.{Model}
 use Rattle.model_core.specs.History.{History, standing}
 use Rattle.model_core.specs.Lawful.{IsLawful}
@@ -18,20 +19,21 @@ use Rattle.plan_defs.specs.History.{IsHistory}
 use Rattle.db_history.specs.declared.subject.Subject.{Subject}
 use Rattle.db_history.specs.declared.subject.Subject.TheVariants as subjects
 use Rattle.script_lang.specs.declared.command.Command.{Command}
-use Rattle.script_lang.specs.declared.command.Command.TheVariants.{Reset, ResetOrder}
+use Rattle.script_lang.specs.declared.command.Command.TheVariants.{Reset, ResetOrder, Unrelate}
 use Rattle.script_lang.specs.declared.command.DecisionText.{DecisionText}
 use Rattle.script_lang.specs.declared.command.DecisionText.TheVariants as texts
 use Rattle.script_lang.specs.Naming.{decision_command}
 use Rattle.session_core.specs.Asking.{reset_command}
 use Rattle.session_core.specs.declared.asked.SubjectText.{SubjectText}
-use Rattle.session_core.specs.declared.asked.SubjectText.TheVariants.{Named, Order}
+use Rattle.session_core.specs.declared.asked.SubjectText.TheVariants.{Named, Order, Constraint, Relation}
 use Rattle.session_core.specs.declared.reason.RefusalReason.{RefusalReason}
 use Rattle.session_core.specs.declared.reason.RefusalReason.TheVariants as reason
 use Rattle.session_core.specs.declared.reason.StepStop.{StepStop}
 use Rattle.session_core.specs.declared.reason.StepStop.TheVariants.{Refused, Memory}
 use Rattle.session_core.specs.Reasons.{refusal, outcome_text}
 use Rattle.session_core.specs.Replies.{IsFull, UnlessFull, RepliesStep, RepliesDecision, RepliesReset, ResetsAsked, AsksSubject, UndoesLast}
-use Rattle.session_core.specs.Steps.{stop_for, step_for, StepsOr, SaysStep, ResetsOn, FindsSubject, Answers, AnswersCommand}
+use Rattle.session_core.specs.Steps.{stop_for, step_for, StepsOr, SaysStep, ResetsOn, AsksNoSubject, NamesSubject, FindsSubject, Answers, AnswersCommand}
+use Rattle.session_core.proofs.StandIns.{same_subject, reset_for}
 use Rattle.session_core.proofs.Words.{subject_one}
 
 -- ---- replies
@@ -67,12 +69,16 @@ module _ (old new : Database) where
   deciding (texts.Merge token target) result answers = answers
   deciding (texts.Reject token) result answers = answers
   deciding (texts.Order first second) result answers = answers
+  deciding (texts.Constrain kind arguments) result answers = answers
+  deciding (texts.Relate relation first second) result answers = answers
 
   -- and for those that ask for one to be taken out
   pub resetting : (asked : SubjectText) (result : Result (List ℕ) AllocError)
       → Answers (RepliesReset old (reset_command asked)) old result new → AnswersCommand old (reset_command asked) result new
   resetting (Named text) result answers = answers
   resetting (Order text after) result answers = answers
+  resetting (Constraint kind arguments) result answers = answers
+  resetting (Relation relation text after) result answers = answers
 
 -- nothing changes where the history is full
 pub full_answers : (old : Database) (IsReplied : List ℕ → Database → Type 0) (result : Result (List ℕ) AllocError)
@@ -126,19 +132,26 @@ reset_ends old new subject (Ok outcome) answers = reset_done old new subject out
 reset_ends old new subject (Err why) answers = not_reset old new subject why answers
 
 -- where a subject is asked for, no other one is
-module _ (old new : Database) (lawful : IsLawful old.model) (command : Command) where
+module _ (old new : Database) (sound : IsSound old) (command : Command) where
   asked_reset : (subject : Subject) (step : Result Outcome StepStop) → AsksSubject old.model command subject → ResetsOn old subject step new
       → StepsOr (ResetsAsked old command) old step new
   asked_reset subject (Ok outcome) asks resets = (subject, (asks, resets))
   asked_reset subject (Err (Refused reason.NoDecision)) asks resets =
-      (λ other is. subst (λ (s : Subject). HasDecisionOn old s → ⊥) (subject_one old.model lawful command subject other asks is) resets.0, resets.1)
+      (λ other is. subst (λ (s : Subject). HasDecisionOn old s → ⊥) (subject_one old.model sound.lawful command subject other asks is) resets.0, resets.1)
   asked_reset subject (Err (Refused why)) asks resets = absurd resets
   asked_reset subject (Err Memory) asks resets = resets
 
   pub found_reset : (found : Option Subject) (subject : Subject) (step : Result Outcome StepStop) → found ≡ Some subject → FindsSubject old.model command found
       → ResetsOn old subject step new → StepsOr (ResetsAsked old command) old step new
   found_reset found subject step is finds resets =
-      asked_reset subject step (subst (λ (f : Option Subject). FindsSubject old.model command f) is finds) resets
+      let found_for = subst (λ (f : Option Subject). FindsSubject old.model command f) is finds in
+      asked_reset found_for.0 step found_for.1.0 (reset_for old sound new subject found_for.0 found_for.1.1 step resets)
+
+-- what is named is found
+pub named_found : (model : Model) (command : Command) (answer : Result (Option Subject) AllocError) → IfOk answer (NamesSubject model command) → IfOk answer (FindsSubject model command)
+named_found model command (Ok (Some subject)) names = (subject, (names, same_subject subject))
+named_found model command (Ok None) names = names
+named_found model command (Err none) names = tt
 
 -- no decision stands on what isn't named
 pub none_reset : (old : Database) (command : Command) (found : Option Subject) → found ≡ None → FindsSubject old.model command found
@@ -152,13 +165,17 @@ none_reset old command found is finds =
 module _ (model : Model) (text : NameText) where
   -- a text that names no variable and no token names nothing
   pub no_subject : ((name : VarName) → NamesVariable model text name → ⊥) → ((token : TokenName) → NamesToken model text token → ⊥)
-      → (subject : Subject) → AsksSubject model (Reset text) subject → ⊥
+      → AsksNoSubject model (Reset text)
   no_subject no_variable no_token (subjects.Var name) asks = no_variable name asks
   no_subject no_variable no_token (subjects.Token token) asks = no_token token asks
-  no_subject no_variable no_token (subjects.Order first second) asks = asks
+  no_subject no_variable no_token subject asks = asks
 
   pub no_order : (after : NameText) → ((first second : TokenName) → NamesToken model text first → NamesToken model after second → ⊥)
-      → (subject : Subject) → AsksSubject model (ResetOrder text after) subject → ⊥
-  no_order after none (subjects.Var name) asks = asks
-  no_order after none (subjects.Token token) asks = asks
+      → AsksNoSubject model (ResetOrder text after)
   no_order after none (subjects.Order first second) asks = none first second asks.0 asks.1
+  no_order after none subject asks = asks
+
+  pub no_relation : (relation : Rel) (after : NameText) → ((first second : TokenName) → NamesToken model text first → NamesToken model after second → ⊥)
+      → AsksNoSubject model (Unrelate relation text after)
+  no_relation relation after none (subjects.Relation other first second) asks = none first second asks.1 asks.2
+  no_relation relation after none subject asks = asks

@@ -11,6 +11,7 @@ use Rattle.eu_name.specs.Spelling.{name_spelling, Spells}
 use Rattle.eu_name.proofs.Names.{spells_one_name}
 use Rattle.model_core.specs.declared.class.Enum.{Enum}
 use Rattle.model_core.specs.declared.class.Object.{Object}
+use Rattle.model_core.specs.declared.decision.Decision.TheVariants as decisions
 use Rattle.model_core.specs.declared.model.Model.{Model}
 use Rattle.model_core.specs.declared.variable.ValueKind.{ValueKind}
 use Rattle.model_core.specs.declared.variable.ValueKind.TheVariants as kinds
@@ -25,7 +26,8 @@ use Rattle.db_history.specs.declared.subject.Subject.{Subject}
 use Rattle.db_history.specs.declared.subject.Subject.TheVariants as subjects
 use Rattle.plan_resolve.proofs.Naming.{one_name}
 use Rattle.script_lang.specs.declared.command.Command.{Command}
-use Rattle.script_lang.specs.declared.command.Command.TheVariants.{Reset, ResetOrder}
+use Rattle.script_lang.specs.declared.command.Command.TheVariants.{Reset, ResetOrder, Post, Relate, Withdraw, Unrelate}
+use Rattle.script_lang.proofs.Asked.{asks_one}
 use Rattle.session_replies.specs.Lines.{IsTokenWord, IsVariableWord}
 use Rattle.session_core.specs.Replies.{AsksSubject}
 
@@ -113,4 +115,17 @@ module _ (model : Model) where
         let seconds = names_one_token model after second second' lawful p.1 q.1 in
         λ i. subjects.Order (firsts i) (seconds i)
     subject_one (ResetOrder text after) (subjects.Order first second) other p q = absurd q
+    subject_one (Withdraw kind arguments) (subjects.Constraint one given) (subjects.Constraint other given') p q =
+        let same = asks_one model (Post kind arguments) (decisions.Constrain one given) (decisions.Constrain other given') lawful p q in
+        let kinds : one ≡ other = cc in
+        let lists : given ≡ given' = cc in
+        λ i. subjects.Constraint (kinds i) (lists i)
+    subject_one (Withdraw kind arguments) (subjects.Constraint one given) other p q = absurd q
+    subject_one (Unrelate relation text after) (subjects.Relation one first second) (subjects.Relation other first' second') p q =
+        let same = asks_one model (Relate relation text after) (decisions.Relate one first second) (decisions.Relate other first' second') lawful p q in
+        let relations : one ≡ other = cc in
+        let firsts : first ≡ first' = cc in
+        let seconds : second ≡ second' = cc in
+        λ i. subjects.Relation (relations i) (firsts i) (seconds i)
+    subject_one (Unrelate relation text after) (subjects.Relation one first second) other p q = absurd q
     subject_one command one other p q = absurd p

@@ -7,12 +7,14 @@ use Rattle.session_core.specs.declared.asked.Asked.TheVariants.{Nothing, Decisio
 use Rattle.session_core.specs.declared.asked.Query.{Query}
 use Rattle.session_core.specs.declared.asked.Query.TheVariants.{Domain, Tokens, Decisions, Flaw, Conflict, Cycle}
 use Rattle.session_core.specs.declared.asked.SubjectText.{SubjectText}
-use Rattle.session_core.specs.declared.asked.SubjectText.TheVariants.{Named, Order}
+use Rattle.session_core.specs.declared.asked.SubjectText.TheVariants.{Named, Order, Constraint, Relation}
 
 -- for a decision on this to be taken out
 abbrev pub reset_command : SubjectText → Command
 reset_command (Named text) = commands.Reset text
 reset_command (Order text after) = commands.ResetOrder text after
+reset_command (Constraint kind arguments) = commands.Withdraw kind arguments
+reset_command (Relation relation text after) = commands.Unrelate relation text after
 
 -- for this to be told
 abbrev pub query_command : Query → Command

@@ -12,6 +12,7 @@ use Rattle.session_core.specs.declared.reason.RefusalReason.TheVariants as reaso
 -- the word that is printed for the reason against a decision
 abbrev pub refusal_word : Refusal → List ℕ
 refusal_word refusals.Unknown = codes "unknown"
+refusal_word refusals.WrongType = codes "wrong-type"
 refusal_word refusals.Decided = codes "decided"
 refusal_word refusals.NotInDomain = codes "not-in-domain"
 refusal_word refusals.NotActive = codes "not-active"

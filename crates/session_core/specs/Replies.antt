@@ -6,6 +6,7 @@ use Rattle.domain_core.specs.Domain.{Domain}
 use Rattle.eu_name.specs.declared.name.VarName.{VarName}
 use Rattle.eu_name.specs.declared.name_text.NameText.{NameText}
 use Rattle.model_core.specs.declared.decision.Decision.{Decision}
+use Rattle.model_core.specs.declared.decision.Decision.TheVariants as decisions
 use Rattle.model_core.specs.declared.model.Model.{Model}
 use Rattle.model_core.specs.History.{standing}
 use Rattle.model_core.specs.Names.{NamesToken, NamesVariable}
@@ -25,7 +26,8 @@ use Rattle.plan_defs.specs.Flaws.{Flaw, HasFlaw}
 use Rattle.db_history.specs.declared.subject.Subject.{Subject}
 use Rattle.db_history.specs.declared.subject.Subject.TheVariants as subjects
 use Rattle.script_lang.specs.declared.command.Command.{Command}
-use Rattle.script_lang.specs.declared.command.Command.TheVariants.{Empty, Specify, Activate, Merge, Reject, Order, Reset, ResetOrder}
+use Rattle.script_lang.specs.declared.command.Command.TheVariants.{Empty, Specify, Activate, Merge, Reject, Order, Post, Relate}
+use Rattle.script_lang.specs.declared.command.Command.TheVariants.{Reset, ResetOrder, Withdraw, Unrelate}
 use Rattle.script_lang.specs.declared.command.Command.TheVariants as commands
 use Rattle.session_replies.specs.Lines.{with_line_feed, counted_lines, IsDomainLine, IsTokenLine, IsDecisionLine, IsEdgeLine, IsFlawLine}
 use Rattle.script_lang.specs.Naming.{AsksDecision, AsksNothing}
@@ -70,12 +72,16 @@ TakesAsked old command (Err (reason.Decision why)) new =
     ((AsksInVain old command × (why ≡ refusals.Unknown)) ⊎ RefusesAsked old command why) × (new ≡ old)
 TakesAsked old command (Err why) new = ⊥
 
--- the command asks for the decision on this to be taken out
+-- the command asks for the decision on this to be taken out: on a constraint or a relation, that which these words post
 abbrev pub AsksSubject : Model → Command → Subject → Type 0
 AsksSubject model (Reset text) (subjects.Var name) = NamesVariable model text name
 AsksSubject model (Reset text) (subjects.Token token) = NamesToken model text token
 AsksSubject model (ResetOrder text after) (subjects.Order first second) =
     NamesToken model text first × NamesToken model after second
+AsksSubject model (Withdraw kind arguments) (subjects.Constraint other given) =
+    AsksDecision model (Post kind arguments) (decisions.Constrain other given)
+AsksSubject model (Unrelate relation text after) (subjects.Relation other first second) =
+    AsksDecision model (Relate relation text after) (decisions.Relate other first second)
 AsksSubject model command subject = ⊥
 
 -- no decision stands on what the command names
@@ -190,8 +196,12 @@ RepliesTo old (Activate token) reply new = RepliesDecision old (Activate token) 
 RepliesTo old (Merge token target) reply new = RepliesDecision old (Merge token target) reply new
 RepliesTo old (Reject token) reply new = RepliesDecision old (Reject token) reply new
 RepliesTo old (Order first second) reply new = RepliesDecision old (Order first second) reply new
+RepliesTo old (Post kind arguments) reply new = RepliesDecision old (Post kind arguments) reply new
+RepliesTo old (Relate relation first second) reply new = RepliesDecision old (Relate relation first second) reply new
 RepliesTo old (Reset subject) reply new = RepliesReset old (Reset subject) reply new
 RepliesTo old (ResetOrder first second) reply new = RepliesReset old (ResetOrder first second) reply new
+RepliesTo old (Withdraw kind arguments) reply new = RepliesReset old (Withdraw kind arguments) reply new
+RepliesTo old (Unrelate relation first second) reply new = RepliesReset old (Unrelate relation first second) reply new
 RepliesTo old commands.Undo reply new = RepliesStep (UndoesLast old) reply new
 RepliesTo old (commands.Domain variable) reply new = Keeping (TellsState (TellsDomain old.model variable)) old reply new
 RepliesTo old commands.Tokens reply new =

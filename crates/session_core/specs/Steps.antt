@@ -1,6 +1,7 @@
 -- What the functions behind the commands answer: a step or why it isn't made, and a reply or that memory was wanting for it.
 use Rattle.std.specs.Prelude.{◌≡◌, ℕ, List, Option, Result, Ok, Err, MatchOption}
 use Rattle.std.specs.declared.alloc.AllocError.{AllocError}
+use Rattle.model_core.specs.declared.decision.Decision.TheVariants as decisions
 use Rattle.model_core.specs.declared.model.Model.{Model}
 use Rattle.model_core.specs.declared.refusal.Refusal.{Refusal}
 use Rattle.model_core.specs.declared.refusal.Refusal.TheVariants as refusals
@@ -9,7 +10,9 @@ use Rattle.plan_db.specs.declared.fault.DbFault.{DbFault}
 use Rattle.plan_db.specs.declared.fault.DbFault.TheVariants as fault
 use Rattle.plan_db.specs.declared.fault.Outcome.{Outcome}
 use Rattle.db_history.specs.declared.subject.Subject.{Subject}
+use Rattle.db_history.specs.declared.subject.Subject.TheVariants as subjects
 use Rattle.script_lang.specs.declared.command.Command.{Command}
+use Rattle.script_lang.specs.Naming.{StandsForDecision}
 use Rattle.session_core.specs.declared.reason.RefusalReason.{RefusalReason}
 use Rattle.session_core.specs.declared.reason.RefusalReason.TheVariants as reason
 use Rattle.session_core.specs.declared.reason.StepStop.{StepStop}
@@ -28,6 +31,7 @@ abbrev pub stop_for : DbFault → StepStop
 stop_for fault.Behind = Memory
 stop_for fault.InInconsistent = Refused reason.Inconsistent
 stop_for fault.Unknown = refused_for refusals.Unknown
+stop_for fault.WrongType = refused_for refusals.WrongType
 stop_for fault.Decided = refused_for refusals.Decided
 stop_for fault.NotInDomain = refused_for refusals.NotInDomain
 stop_for fault.NotActive = refused_for refusals.NotActive
@@ -63,10 +67,26 @@ ResetsOn old subject (Err (Refused reason.NoDecision)) new = (HasDecisionOn old 
 ResetsOn old subject (Err (Refused why)) new = ⊥
 ResetsOn old subject (Err Memory) new = new ≡ old
 
+-- the command asks for no decision on anything to be taken out
+abbrev pub AsksNoSubject : Model → Command → Type 0
+AsksNoSubject model command = (subject : Subject) → AsksSubject model command subject → ⊥
+
 -- what the command names: the subject on which it asks for the decision to be taken out, or nothing
+abbrev pub NamesSubject : Model → Command → Option Subject → Type 0
+NamesSubject model command answer = MatchOption answer (AsksNoSubject model command) (AsksSubject model command)
+
+-- the one subject stands for the other: it is the same, but that values of a constraint may be other ones outside the range of
+-- values
+abbrev pub StandsForSubject : Subject → Subject → Type 0
+StandsForSubject (subjects.Constraint kind given) (subjects.Constraint other asked) =
+    StandsForDecision (decisions.Constrain kind given) (decisions.Constrain other asked)
+StandsForSubject subject asked = subject ≡ asked
+
+-- what is answered of a command: nothing, or a subject that stands for the one that it names
 abbrev pub FindsSubject : Model → Command → Option Subject → Type 0
 FindsSubject model command answer =
-    MatchOption answer ((subject : Subject) → AsksSubject model command subject → ⊥) (AsksSubject model command)
+    MatchOption answer (AsksNoSubject model command)
+    (λ subject. (asked : Subject) × (AsksSubject model command asked × StandsForSubject subject asked))
 
 -- ---- replies
 

@@ -3,8 +3,11 @@
 ghost use Rattle.std.specs.Prelude.{◌≡◌};
 ghost use Rattle.session_core.specs.Asking.{asked_command};
 
+use domain_core::kind::Kind;
 use eu_name::name_text::NameText;
-use script_lang::{Command, DecisionText};
+use eu_name::sequence::Sequence;
+use model_core::item::Rel;
+use script_lang::{ArgumentText, Command, DecisionText};
 
 /// What a command asks for.
 #[derive(Drop)]
@@ -32,6 +35,17 @@ pub enum SubjectText {
     Named(NameText),
     /// That the one token is before the other.
     Order(NameText, NameText),
+    /// That the constraint holds of the arguments.
+    Constraint {
+        kind: Kind,
+        arguments: Sequence<ArgumentText>,
+    },
+    /// That the relation holds between the two tokens.
+    Relation {
+        relation: Rel,
+        first: NameText,
+        second: NameText,
+    },
 }
 
 /// What is to be told.
@@ -64,8 +78,32 @@ pub fn sort_command(command: Command) -> Asked
         Command::Merge { token, target } => Asked::Decision(DecisionText::Merge { token, target }),
         Command::Reject { token } => Asked::Decision(DecisionText::Reject { token }),
         Command::Order { first, second } => Asked::Decision(DecisionText::Order { first, second }),
+        Command::Post { kind, arguments } => {
+            Asked::Decision(DecisionText::Constrain { kind, arguments })
+        }
+        Command::Relate {
+            relation,
+            first,
+            second,
+        } => Asked::Decision(DecisionText::Relate {
+            relation,
+            first,
+            second,
+        }),
         Command::Reset { subject } => Asked::Reset(SubjectText::Named(subject)),
         Command::ResetOrder { first, second } => Asked::Reset(SubjectText::Order(first, second)),
+        Command::Withdraw { kind, arguments } => {
+            Asked::Reset(SubjectText::Constraint { kind, arguments })
+        }
+        Command::Unrelate {
+            relation,
+            first,
+            second,
+        } => Asked::Reset(SubjectText::Relation {
+            relation,
+            first,
+            second,
+        }),
         Command::Undo => Asked::Undo,
         Command::Domain { variable } => Asked::Tell(Query::Domain(variable)),
         Command::Tokens => Asked::Tell(Query::Tokens),

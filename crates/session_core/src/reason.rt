@@ -42,6 +42,7 @@ fn refusal_word(refusal: Refusal) -> &'static str
 {
     match refusal {
         Refusal::Unknown => "unknown",
+        Refusal::WrongType => "wrong-type",
         Refusal::Decided => "decided",
         Refusal::NotInDomain => "not-in-domain",
         Refusal::NotActive => "not-active",
@@ -83,6 +84,7 @@ fn stop_of(fault: DbFault) -> StepStop
         DbFault::Behind => StepStop::Memory,
         DbFault::InInconsistent => StepStop::Refused(RefusalReason::Inconsistent),
         DbFault::Unknown => refused_for(Refusal::Unknown),
+        DbFault::WrongType => refused_for(Refusal::WrongType),
         DbFault::Decided => refused_for(Refusal::Decided),
         DbFault::NotInDomain => refused_for(Refusal::NotInDomain),
         DbFault::NotActive => refused_for(Refusal::NotActive),

@@ -2,26 +2,31 @@
 
 ghost use Rattle.std.specs.Prelude.{IfOk, MatchOption};
 ghost use Rattle.eu_name.specs.declared.name.VarName.{VarName as Variable};
-ghost use Rattle.model_core.specs.Names.{NamesVariable};
 ghost use Rattle.model_core.specs.Lawful.{IsLawful};
+ghost use Rattle.model_core.specs.Names.{NamesVariable};
+ghost use Rattle.plan_db.specs.Database.{IsSound};
 ghost use Rattle.plan_resolve.specs.Indexing.{IsModelIndex};
 ghost use Rattle.script_lang.specs.declared.command.Command.{Command as Wanted};
 ghost use Rattle.script_lang.specs.declared.command.Command.TheVariants as commands;
 ghost use Rattle.session_core.specs.Asking.{reset_command};
 ghost use Rattle.session_core.specs.Replies.{ResetsAsked};
-ghost use Rattle.session_core.specs.Steps.{AnswersCommand, FindsSubject, ResetsOn, StepsOr};
+ghost use Rattle.session_core.specs.Steps.{AnswersCommand, FindsSubject, NamesSubject, ResetsOn, StepsOr};
 
 use super::reason::{RefusalReason, StepStop, step_of};
 use super::replies::{refused, step_reply};
 use super::undoing::is_full;
 use crate::SubjectText;
+use domain_core::kind::Kind;
 use eu_name::bytes::Bytes;
 use eu_name::name::VarName;
 use eu_name::name_text::NameText;
+use eu_name::sequence::Sequence;
+use model_core::item::Rel;
 use plan_db::{Db, Outcome, Subject};
 use plan_resolve::indexed::{IndexedModel, ModelIndex};
 use plan_resolve::resolving::{token_named, variable_named};
 use script_lang::asking::tokens_named;
+use script_lang::{ArgumentText, constraint_asked};
 use std::alloc::{AllocError, Global};
 
 /// The variable that the text names.
@@ -43,7 +48,7 @@ pub fn variable_in(
 fn token_subject(model: &IndexedModel<'_>, text: &NameText) -> Result<Option<Subject>, AllocError>
     requires lawful { IsLawful model.now }
     requires none { (name : Variable) → NamesVariable model.now text.now name → ⊥ }
-    ensures { IfOk result (FindsSubject model.now (commands.Reset text.now)) }
+    ensures { IfOk result (NamesSubject model.now (commands.Reset text.now)) }
 {
     let found = token_named(model, text)?;
     match found {
@@ -55,7 +60,7 @@ fn token_subject(model: &IndexedModel<'_>, text: &NameText) -> Result<Option<Sub
 // The variable or the token that the text names.
 fn subject_named(model: &IndexedModel<'_>, text: &NameText) -> Result<Option<Subject>, AllocError>
     requires { IsLawful model.now }
-    ensures { IfOk result (FindsSubject model.now (commands.Reset text.now)) }
+    ensures { IfOk result (NamesSubject model.now (commands.Reset text.now)) }
 {
     let found = variable_named(model, text)?;
     match found {
@@ -71,11 +76,44 @@ fn order_named(
     other: &NameText,
 ) -> Result<Option<Subject>, AllocError>
     requires { IsLawful model.now }
-    ensures { IfOk result (FindsSubject model.now (commands.ResetOrder one.now other.now)) }
+    ensures { IfOk result (NamesSubject model.now (commands.ResetOrder one.now other.now)) }
 {
     let found = tokens_named(model, one, other)?;
     match found {
         Some((first, second)) => Ok(Some(Subject::Order(first, second))),
+        None => Ok(None),
+    }
+}
+
+// That the relation holds between the tokens that the two texts name.
+fn relation_named(
+    model: &IndexedModel<'_>,
+    relation: Rel,
+    one: &NameText,
+    other: &NameText,
+) -> Result<Option<Subject>, AllocError>
+    requires { IsLawful model.now }
+    ensures { IfOk result (NamesSubject model.now (commands.Unrelate relation one.now other.now)) }
+{
+    let found = tokens_named(model, one, other)?;
+    match found {
+        Some((first, second)) => Ok(Some(Subject::Relation(relation, first, second))),
+        None => Ok(None),
+    }
+}
+
+// That the constraint holds of what the words say. A value outside the range of values stands for all of those.
+fn constraint_named(
+    model: &IndexedModel<'_>,
+    kind: Kind,
+    arguments: &Sequence<ArgumentText>,
+) -> Result<Option<Subject>, AllocError>
+    requires { IsLawful model.now }
+    ensures { IfOk result (FindsSubject model.now (commands.Withdraw kind arguments.now)) }
+{
+    let found = constraint_asked(model, kind, arguments)?;
+    match found {
+        Some(given) => Ok(Some(Subject::Constraint(kind, given))),
         None => Ok(None),
     }
 }
@@ -91,6 +129,12 @@ fn subject_asked(
     match asked {
         SubjectText::Named(text) => subject_named(model, text),
         SubjectText::Order(one, other) => order_named(model, one, other),
+        SubjectText::Constraint { kind, arguments } => constraint_named(model, *kind, arguments),
+        SubjectText::Relation {
+            relation,
+            first,
+            second,
+        } => relation_named(model, *relation, first, second),
     }
 }
 
@@ -102,7 +146,7 @@ fn find_subject(
 ) -> Result<Option<Subject>, AllocError>
     requires { IsModelIndex db.now.database.model index.now }
     ensures found { IfOk result (FindsSubject db.now.database.model (reset_command asked.now)) }
-    ensures lawful { IsLawful db.now.database.model }
+    ensures sound { IsSound db.now.database }
 {
     subject_asked(&index.of(db.model()), asked)
 }
@@ -116,7 +160,7 @@ fn reset_subject(db: &mut Db, subject: Subject) -> Result<Outcome, StepStop>
 
 // Takes the decision on the subject out, if one was found.
 fn reset_found(db: &mut Db, found: Option<Subject>) -> Result<Outcome, StepStop>
-    requires { IsLawful db.old.database.model }
+    requires { IsSound db.old.database }
     ensures { (command : Wanted) → FindsSubject db.old.database.model command found
         → StepsOr (ResetsAsked db.old.database command) db.old.database result db.new.database }
 {

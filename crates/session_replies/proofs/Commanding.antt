@@ -14,6 +14,7 @@ use Rattle.model_core.specs.declared.model.Model.{Model}
 use Rattle.model_core.specs.declared.variable.Base.{Base}
 use Rattle.model_core.specs.declared.variable.Base.TheVariants.{Given}
 use Rattle.model_core.specs.declared.variable.ValueKind.{ValueKind}
+use Rattle.model_core.specs.Kinds.{IsVariableOfKind}
 use Rattle.model_core.specs.Lawful.{IsLawful}
 use Rattle.model_core.specs.Names.{NamesVariable}
 use Rattle.model_core.specs.Variables.{HasBase}
@@ -21,7 +22,6 @@ use Rattle.plan_text.specs.Subjects.{IsNameOf}
 use Rattle.plan_text.specs.Values.{IsValueText}
 use Rattle.plan_defs.specs.Refusals.{IsDeclared}
 use Rattle.model_core.proofs.Lawful.{base_lawful}
-use Rattle.script_lang.specs.Naming.{IsVariableOfKind}
 use Rattle.session_replies.specs.Lines.{IsTokenWord, IsLineOnToken, IsLineOnTokens, IsLineOnVariable, IsDecisionLine}
 use Rattle.session_replies.specs.Written.{Writes}
 use Rattle.session_replies.proofs.Spacing.{variable_word}

@@ -18,14 +18,13 @@ use Rattle.model_core.specs.declared.variable.Base.TheVariants.{Given, Void}
 use Rattle.model_core.specs.declared.variable.ValueKind.{ValueKind}
 use Rattle.model_core.specs.declared.variable.ValueKind.TheVariants as kinds
 use Rattle.model_core.specs.declared.variable.VarDecl.{VarDecl}
-use Rattle.model_core.specs.Kinds.{IsValueOf, IsBaseOf, IsPartOfKind}
+use Rattle.model_core.specs.Kinds.{IsValueOf, IsBaseOf, IsPartOfKind, IsVariableOfKind}
 use Rattle.model_core.specs.Lawful.{IsLawful, IsLawfulRoot, IsLawfulSlot, IsLawfulVariable}
 use Rattle.model_core.specs.Tokens.{HasToken, Reaches, LeadsToSlot, slot_of}
 use Rattle.model_core.specs.Variables.{HasBase, HasPartBase, HasParameter, HasLocal, IsInBase}
 use Rattle.model_core.proofs.Leading.{token_once}
 use Rattle.model_core.proofs.Rules.{has_rule_once}
 use Rattle.model_core.proofs.Lawful.{rule_lawful, base_lawful}
-use Rattle.script_lang.specs.Naming.{IsVariableOfKind}
 
 -- ---- what is declared is of the kind
 

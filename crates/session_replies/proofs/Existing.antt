@@ -1,9 +1,10 @@
 -- What is there has a line: names have words, and values have texts.
-use Rattle.std.proofs.Common.{ℕ, ℤ, List, [], ◌∷◌, ◌++◌, refl}
+use Rattle.std.proofs.Common.{◌≡◌, ℕ, suc, ◌+◌, ℤ, Option, Some, None, List, [], ◌∷◌, ◌++◌, slice_get, refl, subst, arith}
 use Rattle.std.specs.Prelude.{Contains, codes}
 use Rattle.std.specs.Fmt.{decimal, signed_decimal}
 use Rattle.std.specs.List.{AllZip}
 use Rattle.std.proofs.lemmas.List.Elements.{All-contains}
+use Rattle.domain_core.specs.declared.kind.Kind.{Kind}
 use Rattle.domain_core.specs.Domain.{Domain, Range, Set, Has}
 use Rattle.eu_name.specs.declared.name.Part.{Part}
 use Rattle.eu_name.specs.declared.name.Part.TheVariants.{Start, End, Duration, Object, Param}
@@ -13,8 +14,10 @@ use Rattle.eu_name.specs.declared.name.VarName.TheVariants as variables
 use Rattle.eu_name.specs.Spelling.{name_spelling}
 use Rattle.eu_name.proofs.Members.{contains_from_get}
 use Rattle.eu_name.proofs.Ordered.{contains_head, contains_later}
+use Rattle.model_core.specs.declared.decision.ConArg.{ConArg}
+use Rattle.model_core.specs.declared.decision.ConArg.TheVariants.{Var, Value}
 use Rattle.model_core.specs.declared.decision.Decision.{Decision}
-use Rattle.model_core.specs.declared.decision.Decision.TheVariants.{Specify, Activate, Merge, Reject, Order}
+use Rattle.model_core.specs.declared.decision.Decision.TheVariants.{Specify, Activate, Merge, Reject, Order, Constrain, Relate}
 use Rattle.model_core.specs.declared.model.Model.{Model}
 use Rattle.model_core.specs.declared.rule.Slot.{Slot}
 use Rattle.model_core.specs.declared.variable.Base.{Base}
@@ -23,7 +26,7 @@ use Rattle.model_core.specs.declared.variable.ValueKind.{ValueKind}
 use Rattle.model_core.specs.declared.variable.ValueKind.TheVariants as kinds
 use Rattle.model_core.specs.declared.view.TokenState.{TokenState}
 use Rattle.model_core.specs.declared.view.TokenState.TheVariants as standing
-use Rattle.model_core.specs.Kinds.{IsValueOf, IsPartOfKind}
+use Rattle.model_core.specs.Kinds.{IsValueOf, IsPartOfKind, IsVariableOfKind}
 use Rattle.model_core.specs.Lawful.{IsLawful, IsToken}
 use Rattle.model_core.specs.State.{State, IsState}
 use Rattle.model_core.specs.TokenStates.{HasTokenState}
@@ -38,10 +41,11 @@ use Rattle.db_edges.specs.declared.edge.Point.{Point}
 use Rattle.db_edges.specs.declared.edge.Point.TheVariants as points
 use Rattle.plan_defs.specs.Flaws.{Flaw, Undecided, Undetermined, Unordered, Untimed}
 use Rattle.plan_defs.proofs.Kinding.{pred_of_slot}
-use Rattle.script_lang.specs.Naming.{IsVariableOfKind}
+use Rattle.script_lang.specs.Compared.{kind_at, AllPlaced}
+use Rattle.script_lang.specs.KindWords.{constraint_word, relation_word}
 use Rattle.session_replies.specs.Existence.{DomainsHaveLines, TokensHaveLines, DecisionsHaveLines, EdgesHaveLines, FlawsHaveLines}
-use Rattle.session_replies.specs.Lines.{spaced, printed_number, IsTokenWord, IsVariableWord, IsDomainText, IsStateText, IsLineOnToken, IsLineOnTokens, IsDecisionLine, IsPointWord, IsFlawText}
-use Rattle.session_replies.specs.Writable.{IsWritable, IsPointWritable, IsFlawWritable}
+use Rattle.session_replies.specs.Lines.{spaced, printed_number, IsTokenWord, IsVariableWord, IsDomainText, IsStateText, IsLineOnToken, IsLineOnTokens, IsArgumentText, IsPostLine, IsDecisionLine, IsPointWord, IsFlawText}
+use Rattle.session_replies.specs.Writable.{IsArgumentWritable, IsPostWritable, IsWritable, IsPointWritable, IsFlawWritable}
 use Rattle.session_replies.proofs.Declaring.{values_of_kind, declared_of_kind}
 use Rattle.session_replies.proofs.Spacing.{variable_word}
 
@@ -71,7 +75,7 @@ part_kind model slot Duration base is = (kinds.Int, refl)
 part_kind model slot Object base is = (kinds.Object, refl)
 part_kind model slot (Param number) base (variable, has, is) = (variable.kind, (variable, has, refl))
 
-variable_kind : (model : Model) (name : VarName) (base : Base) → HasBase model name base → (kind : ValueKind) × IsVariableOfKind model kind name
+pub variable_kind : (model : Model) (name : VarName) (base : Base) → HasBase model name base → (kind : ValueKind) × IsVariableOfKind model kind name
 variable_kind model (variables.Global number) base (variable, is, same) = (variable.kind, (variable, (is, refl)))
 variable_kind model (variables.Token token part) base (slot, has, is) =
     let found = part_kind model slot part base is in (found.0, (slot, (has, found.1)))
@@ -111,6 +115,30 @@ module _ (model : Model) (lawful : IsLawful model) where
 
   -- ---- lines
 
+  argument_text : (kind : Option ValueKind) (argument : ConArg) → IsArgumentWritable model kind argument → (word : List ℕ) × IsArgumentText model kind argument word
+  argument_text kind (Var name) (base, has) = variable_named name base has
+  argument_text (Some kind) (Value value) of = values_have_texts model kind value of
+  argument_text None (Value value) of = absurd of
+
+  argument_texts : (kind : Kind) (among : Option ValueKind) (place : ℕ) (arguments : List ConArg)
+      → ((n : ℕ) (argument : ConArg) → slice_get arguments n ≡ Some argument → IsArgumentWritable model (kind_at kind among (place + n)) argument)
+      → (words : List (List ℕ)) × AllPlaced (λ n. IsArgumentText model (kind_at kind among n)) place arguments words
+  argument_texts kind among place [] each = ([], tt)
+  argument_texts kind among place (argument ∷ arguments) each =
+      let first = argument_text (kind_at kind among place) argument
+      (subst (λ (n : ℕ). IsArgumentWritable model (kind_at kind among n) argument) (omega arith) (each 0 argument refl)) in
+      let rest = argument_texts kind among (place + 1) arguments
+      (λ n other at. subst (λ (m : ℕ). IsArgumentWritable model (kind_at kind among m) other) (omega arith) (each (suc n) other at)) in
+      (first.0 ∷ rest.0, (first.1, rest.1))
+
+  post_line : (kind : Kind) (arguments : List ConArg) → IsPostWritable model kind arguments → (line : List ℕ) × IsPostLine model kind arguments line
+  post_line kind arguments is =
+      let words = argument_texts kind is.among 0 arguments (λ n argument at.
+      subst (λ (m : ℕ). IsArgumentWritable model (kind_at kind is.among m) argument) (omega arith) (is.each n argument at)) in (
+        spaced (codes "post" ∷ constraint_word kind ∷ words.0),
+        record { posted = is.posted; some = is.some; among = is.among; is_among = is.is_among; words = words.0; are = words.1; whole = refl },
+      )
+
   decision_line : (decision : Decision) → IsWritable model decision → (line : List ℕ) × IsDecisionLine model decision line
   decision_line (Specify name value) declared =
       let kind = variable_kind model name (Given declared.0) declared.1 in
@@ -123,6 +151,10 @@ module _ (model : Model) (lawful : IsLawful model) where
   decision_line (Merge token target) is = on_tokens (codes "merge") token target is.0 is.1
   decision_line (Reject token) is = on_token (codes "reject") token is
   decision_line (Order one other) is = on_tokens (codes "order") one other is.0 is.1
+  decision_line (Constrain kind arguments) is = post_line kind arguments is
+  decision_line (Relate relation one other) is =
+      let rest = on_tokens (relation_word relation) one other is.0 is.1 in
+      (codes "relate " ++ rest.0, (rest.0, (rest.1, refl)))
 
   point_word : (point : Point) → IsPointWritable model point → (word : List ℕ) × IsPointWord model point word
   point_word points.Origin is = (codes "origin", refl)

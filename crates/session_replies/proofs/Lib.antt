@@ -11,5 +11,9 @@ pub mod Tokening
 pub mod Seen
 pub mod Separated
 pub mod Numbers
+pub mod Paths
 pub mod ReadBack
 pub mod Existing
+pub mod Posting
+pub mod Apart
+pub mod Arguing

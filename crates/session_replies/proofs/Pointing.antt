@@ -8,7 +8,7 @@ use Rattle.eu_name.specs.declared.name.Step.{Step}
 use Rattle.eu_name.specs.declared.name.TokenName.{TokenName}
 use Rattle.eu_name.specs.declared.name.VarName.TheVariants as variables
 use Rattle.model_core.specs.declared.decision.Decision.{Decision}
-use Rattle.model_core.specs.declared.decision.Decision.TheVariants.{Specify, Activate, Merge, Reject, Order}
+use Rattle.model_core.specs.declared.decision.Decision.TheVariants.{Specify, Activate, Merge, Reject, Order, Constrain, Relate}
 use Rattle.model_core.specs.declared.item.Item.{Item}
 use Rattle.model_core.specs.declared.item.Item.TheVariants.{Constraint, Relation}
 use Rattle.domain_core.specs.declared.kind.Kind.{Kind}
@@ -18,7 +18,7 @@ use Rattle.model_core.specs.Decided.{IsActive}
 use Rattle.model_core.specs.Lawful.{IsToken}
 use Rattle.model_core.specs.State.{State}
 use Rattle.model_core.specs.Tokens.{IsFact, Reaches, slot_of, slot_token}
-use Rattle.plan_defs.specs.Claims.{Claim, relates}
+use Rattle.plan_defs.specs.Claims.{Claim, relates, posted_claim}
 use Rattle.plan_defs.specs.Terms.{Context, InProblem, InRule, Argument, Variable}
 use Rattle.plan_defs.proofs.Members.{all_from_get}
 use Rattle.eu_name.proofs.Members.{contains_from_get}
@@ -28,7 +28,7 @@ use Rattle.db_edges.specs.declared.edge.Point.{Point}
 use Rattle.db_edges.specs.declared.edge.Point.TheVariants.{Origin, Start, End}
 use Rattle.db_edges.specs.declared.walking.Sort.{Sort}
 use Rattle.db_edges.specs.declared.walking.Sort.TheVariants.{Relations, Constraints}
-use Rattle.db_edges.specs.Edges.{AppendsEach, HasLastingEdges, HasGivenEdges, HasTimesGiven, HasClaimEdges, HasRelationEdges, HasConstraintEdges, HasOrderEdges, comparing_edges, lasting_edges, edge_from, ComparesPoints}
+use Rattle.db_edges.specs.Edges.{AppendsEach, HasLastingEdges, HasGivenEdges, HasTimesGiven, HasClaimEdges, HasRelationEdges, HasConstraintEdges, HasOrderEdges, HasPostedEdges, comparing_edges, lasting_edges, edge_from, ComparesPoints}
 use Rattle.db_edges.specs.Points.{ActsAs, IsMoment, IsPointOf, IsArgumentPoint}
 use Rattle.db_edges.specs.Whole.{TokenItem, items_of_rules, HasSortEdges, HasOpenEdges, HasTokenEdges, AreTimeEdges}
 use Rattle.db_edges.specs.TimeCycle.{LeavesBy, IsTimeCycle}
@@ -137,6 +137,18 @@ module _ (model : Model) where
     order_there (Activate token) edges there same = subst AreWritable (sym same) (All-nil (IsEdgeWritable model))
     order_there (Merge token target) edges there same = subst AreWritable (sym same) (All-nil (IsEdgeWritable model))
     order_there (Reject token) edges there same = subst AreWritable (sym same) (All-nil (IsEdgeWritable model))
+    order_there (Constrain kind arguments) edges there same = subst AreWritable (sym same) (All-nil (IsEdgeWritable model))
+    order_there (Relate relation one other) edges there same = subst AreWritable (sym same) (All-nil (IsEdgeWritable model))
+
+    posted_there : (decision : Decision) (edges : List NamedEdge) → HasPostedEdges model decisions decision edges → AreWritable edges
+    posted_there (Constrain kind arguments) edges has = claim_there (posted_claim kind arguments) edges has
+    posted_there (Relate relation one other) edges has =
+        appends_all (HasClaimEdges model decisions) (IsEdgeWritable model) (relates relation one other) edges (λ claim had there. claim_there claim had) has
+    posted_there (Specify name value) edges same = subst AreWritable (sym same) (All-nil (IsEdgeWritable model))
+    posted_there (Activate token) edges same = subst AreWritable (sym same) (All-nil (IsEdgeWritable model))
+    posted_there (Merge token target) edges same = subst AreWritable (sym same) (All-nil (IsEdgeWritable model))
+    posted_there (Reject token) edges same = subst AreWritable (sym same) (All-nil (IsEdgeWritable model))
+    posted_there (Order one other) edges same = subst AreWritable (sym same) (All-nil (IsEdgeWritable model))
 
     -- the edges of decisions that can be written can be written too
     pub edges_writable : (state : State) (edges : List NamedEdge) → AreTimeEdges model decisions state edges → All (IsEdgeWritable model) edges
@@ -146,8 +158,9 @@ module _ (model : Model) where
         (joined are.given _ (appends_all (HasTimesGiven model decisions) (IsEdgeWritable model) state.tokens are.given (λ token had there. times_there token had) are.given_are)
         (joined are.related _ (appends_all (HasTokenEdges Relations model decisions state) (IsEdgeWritable model) state.tokens are.related (λ token had there. token_there Relations state token had) are.related_are)
         (joined are.problem _ (appends_all (HasConstraintEdges model decisions InProblem) (IsEdgeWritable model) model.problem.items are.problem (λ item had there. constraint_there InProblem item had) are.problem_are)
-        (joined are.constrained are.ordered (appends_all (HasTokenEdges Constraints model decisions state) (IsEdgeWritable model) state.tokens are.constrained (λ token had there. token_there Constraints state token had) are.constrained_are)
-        (appends_all HasOrderEdges (IsEdgeWritable model) decisions are.ordered order_there are.ordered_are))))))
+        (joined are.constrained _ (appends_all (HasTokenEdges Constraints model decisions state) (IsEdgeWritable model) state.tokens are.constrained (λ token had there. token_there Constraints state token had) are.constrained_are)
+        (joined are.ordered are.posted (appends_all HasOrderEdges (IsEdgeWritable model) decisions are.ordered order_there are.ordered_are)
+        (appends_all (HasPostedEdges model decisions) (IsEdgeWritable model) decisions are.posted (λ decision had there. posted_there decision had) are.posted_are)))))))
       where
         joined : (one other : List NamedEdge) → AreWritable one → AreWritable other → AreWritable (one ++ other)
         joined one other first second = All-append (IsEdgeWritable model) one other first second

@@ -6,6 +6,7 @@ use Rattle.std.specs.List.{AllByRecursion, flat_map, join_with_byte}
 use Rattle.std.proofs.lemmas.Bool.Decides.{nat_tests}
 use Rattle.std.proofs.lemmas.Fmt.{digits_decimal, decimal_nonempty}
 use Rattle.std.proofs.lemmas.Int.{ints}
+use Rattle.std.proofs.lemmas.List.{append-nil}
 use Rattle.std.proofs.lemmas.List.Elements.{All-from_recursion, recursion_from_All}
 use Rattle.domain_core.specs.Domain.{IsValue}
 use Rattle.eu_name.specs.declared.name.Step.{Step}
@@ -20,6 +21,7 @@ use Rattle.model_core.specs.Naming.{IsObjectName}
 use Rattle.plan_text.specs.Values.{three_digits, thousandths_text, decimal_text}
 use Rattle.plan_text.proofs.Decimals.{three_pass}
 use Rattle.script_lang.specs.Words.{is_separator, words_of}
+use Rattle.session_replies.specs.Lines.{spaced}
 use Rattle.script_lang.proofs.Parts.{runs_are_words, blanks_separate}
 
 -- no byte is a blank
@@ -150,3 +152,8 @@ two_words first second one other = word_then first second one ∙ ap (λ (words 
 
 pub three_words : (first second third : List ℕ) → IsWhole first → IsWhole second → IsWhole third → words_of (first ++ (codes " " ++ (second ++ (codes " " ++ third)))) ≡ first ∷ second ∷ third ∷ []
 three_words first second third one other last = word_then first (second ++ (codes " " ++ third)) one ∙ ap (λ (words : List (List ℕ)). first ∷ words) (two_words second third other last)
+
+-- words with single spaces between them
+pub spaced_words : (first : List ℕ) (words : List (List ℕ)) → IsWhole first × AllByRecursion IsWhole words → words_of (spaced (first ∷ words)) ≡ first ∷ words
+spaced_words first [] are = ap words_of (append-nil first) ∙ one_word first are.0
+spaced_words first (next ∷ words) are = word_then first (spaced (next ∷ words)) are.0 ∙ ap (λ (list : List (List ℕ)). first ∷ list) (spaced_words next words are.1)

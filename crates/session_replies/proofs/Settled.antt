@@ -6,8 +6,10 @@ use Rattle.std.proofs.lemmas.List.Elements.{All-nil, All-push, All-contains}
 use Rattle.domain_core.specs.Domain.{Domain, Range, Set, Has}
 use Rattle.eu_name.specs.declared.name.TokenName.{TokenName}
 use Rattle.eu_name.specs.declared.name.VarName.{VarName}
+use Rattle.model_core.specs.declared.decision.ConArg.{ConArg}
+use Rattle.model_core.specs.declared.decision.ConArg.TheVariants.{Var, Value}
 use Rattle.model_core.specs.declared.decision.Decision.{Decision}
-use Rattle.model_core.specs.declared.decision.Decision.TheVariants.{Specify, Activate, Merge, Reject, Order}
+use Rattle.model_core.specs.declared.decision.Decision.TheVariants.{Specify, Activate, Merge, Reject, Order, Constrain, Relate}
 use Rattle.model_core.specs.declared.model.Model.{Model}
 use Rattle.model_core.specs.declared.rule.Slot.{Slot}
 use Rattle.model_core.specs.declared.variable.Base.{Base}
@@ -18,14 +20,17 @@ use Rattle.model_core.specs.State.{State}
 use Rattle.model_core.specs.Tokens.{HasToken}
 use Rattle.model_core.specs.Variables.{HasBase, IsInBase}
 use Rattle.plan_defs.specs.History.{IsHistory}
-use Rattle.plan_defs.specs.Refusals.{IsKnown, IsDeclared, IsAdmissible}
+use Rattle.plan_defs.specs.Refusals.{IsKnown, IsArgumentKnown, IsDeclared, IsAdmissible}
 use Rattle.model_core.specs.declared.refusal.Refusal.TheVariants.{Unknown, NotInDomain}
 use Rattle.plan_defs.specs.Settling.{SettlesAfter, Settles, IsConflict, ReducesTo}
 use Rattle.plan_defs.proofs.Knowing.{IsOrNot, both_or_not, known_or_not}
 use Rattle.eu_name.proofs.Ordered.{contains_head, contains_later, contains_cases, contains_none}
 use Rattle.model_core.proofs.Bases.{base_once}
 use Rattle.plan_defs.proofs.Determining.{same_number}
+use Rattle.plan_defs.proofs.Members.{all_from_get}
+use Rattle.eu_name.proofs.Members.{get_all}
 use Rattle.session_replies.specs.Writable.{IsWritable}
+use Rattle.session_replies.proofs.Posting.{IsBased, post_writable}
 
 -- ---- what can be told
 
@@ -70,6 +75,14 @@ module _ (model : Model) where
       there : (is : State) → All (λ (token : TokenName). (slot : Slot) × HasToken model token slot) is.tokens → (token : TokenName) → Contains is.tokens token → IsToken model token
       there is all token at = All-contains (λ (token : TokenName). (slot : Slot) × HasToken model token slot) is.tokens token all at
 
+      one_based : {decision : Decision} (is : IsAdmissible model before decision) (argument : ConArg) → IsArgumentKnown is.state argument → IsBased model argument
+      one_based is (Var name) (domain, gives) =
+          let in_base = is.least.closed.consistent.in_base name domain gives in (in_base.0, in_base.1)
+      one_based is (Value value) known = tt
+
+      based : {decision : Decision} (is : IsAdmissible model before decision) (arguments : List ConArg) → All (IsArgumentKnown is.state) arguments → All (IsBased model) arguments
+      based is arguments known = all_from_get (IsBased model) arguments (λ place argument at. one_based is argument (get_all (IsArgumentKnown is.state) arguments place argument known at))
+
       by_decision : (decision : Decision) → (is : IsAdmissible model before decision) → IsKnown is.state decision → IsWritable model decision
       by_decision (Specify name value) is (domain, gives) =
           let in_base = is.least.closed.consistent.in_base name domain gives in
@@ -79,6 +92,9 @@ module _ (model : Model) where
           (there is.state is.least.closed.consistent.is_state.tokens token known.0, there is.state is.least.closed.consistent.is_state.tokens target known.1)
       by_decision (Reject token) is known = there is.state is.least.closed.consistent.is_state.tokens token known
       by_decision (Order one other) is known =
+          (there is.state is.least.closed.consistent.is_state.tokens one known.0, there is.state is.least.closed.consistent.is_state.tokens other known.1)
+      by_decision (Constrain kind arguments) is known = post_writable model kind arguments (based is arguments known) (is.free NotInDomain)
+      by_decision (Relate relation one other) is known =
           (there is.state is.least.closed.consistent.is_state.tokens one known.0, there is.state is.least.closed.consistent.is_state.tokens other known.1)
 
   after_writable : (kept decisions settled : List Decision) → SettlesAfter model kept decisions settled → All (IsWritable model) kept → All (IsWritable model) settled

@@ -10,12 +10,12 @@ use Rattle.eu_name.specs.declared.name_text.NameText.{NameText}
 use Rattle.eu_name.specs.Spelling.{name_spelling}
 use Rattle.model_core.specs.declared.model.Model.{Model}
 use Rattle.model_core.specs.declared.variable.ValueKind.{ValueKind}
+use Rattle.model_core.specs.Kinds.{IsVariableOfKind}
 use Rattle.model_core.specs.Lawful.{IsLawful}
 use Rattle.model_core.specs.Names.{NamesVariable}
 use Rattle.model_core.proofs.WellFormed.{variable_text_well_formed}
 use Rattle.plan_text.specs.Values.{IsValueText}
 use Rattle.plan_values.proofs.Valuing.{zip_length}
-use Rattle.script_lang.specs.Naming.{IsVariableOfKind}
 use Rattle.session_replies.specs.Lines.{spaced, printed_number, IsVariableWord, IsDomainText, IsDomainLine}
 use Rattle.session_replies.specs.Written.{WritesBehind, WritesLine, WritesMembers}
 use Rattle.session_replies.proofs.Lining.{zip_push}

@@ -1,7 +1,8 @@
 -- How the replies of a session say what a model and a database have.
-use Rattle.std.specs.Prelude.{◌≡◌, ℕ, ℤ, List, [], ◌∷◌, ◌++◌, length, Some, slice_get, codes}
+use Rattle.std.specs.Prelude.{◌≡◌, ℕ, ◌<◌, ℤ, Option, Some, None, List, [], ◌∷◌, ◌++◌, length, slice_get, codes}
 use Rattle.std.specs.Fmt.{decimal, signed_decimal}
 use Rattle.std.specs.List.{AllZip, flat_map}
+use Rattle.domain_core.specs.declared.kind.Kind.{Kind}
 use Rattle.domain_core.specs.Domain.{Domain, Range, Set}
 use Rattle.eu_name.specs.declared.name.Part.TheVariants as parts
 use Rattle.eu_name.specs.declared.name.TokenName.{TokenName}
@@ -9,15 +10,19 @@ use Rattle.eu_name.specs.declared.name.VarName.{VarName}
 use Rattle.eu_name.specs.declared.name.VarName.TheVariants as variables
 use Rattle.eu_name.specs.declared.name_text.NameText.{NameText}
 use Rattle.eu_name.specs.Spelling.{Spells}
+use Rattle.model_core.specs.declared.decision.ConArg.{ConArg}
+use Rattle.model_core.specs.declared.decision.ConArg.TheVariants.{Var, Value}
 use Rattle.model_core.specs.declared.decision.Decision.{Decision}
-use Rattle.model_core.specs.declared.decision.Decision.TheVariants.{Specify, Activate, Merge, Reject, Order}
+use Rattle.model_core.specs.declared.decision.Decision.TheVariants.{Specify, Activate, Merge, Reject, Order, Constrain, Relate}
+use Rattle.model_core.specs.declared.item.Rel.{Rel}
 use Rattle.model_core.specs.declared.model.Model.{Model}
 use Rattle.model_core.specs.declared.rule.Slot.{Slot}
 use Rattle.model_core.specs.declared.variable.ValueKind.{ValueKind}
 use Rattle.model_core.specs.declared.variable.ValueKind.TheVariants as kinds
 use Rattle.model_core.specs.declared.view.TokenState.{TokenState}
 use Rattle.model_core.specs.declared.view.TokenState.TheVariants as standing
-use Rattle.model_core.specs.Names.{NamesToken, NamesVariable}
+use Rattle.model_core.specs.Kinds.{IsVariableOfKind}
+use Rattle.model_core.specs.Names.{NamesToken}
 use Rattle.model_core.specs.State.{State}
 use Rattle.model_core.specs.Tokens.{HasToken}
 use Rattle.model_core.specs.TokenStates.{HasTokenState}
@@ -27,7 +32,9 @@ use Rattle.db_edges.specs.declared.edge.NamedEdge.{NamedEdge}
 use Rattle.db_edges.specs.declared.edge.Point.{Point}
 use Rattle.db_edges.specs.declared.edge.Point.TheVariants as points
 use Rattle.plan_defs.specs.Flaws.{Flaw, Undecided, Undetermined, Unordered, Untimed}
-use Rattle.script_lang.specs.Naming.{IsVariableOfKind}
+use Rattle.script_lang.specs.Compared.{compared, IsFirstKind, kind_at, AllPlaced}
+use Rattle.script_lang.specs.KindWords.{IsPosted, constraint_word, relation_word}
+use Rattle.script_lang.specs.Naming.{SaysVariable}
 
 -- ---- names
 
@@ -37,7 +44,7 @@ IsTokenWord model token word = (text : NameText) × (Spells word text × NamesTo
 
 -- the word names the variable
 abbrev pub IsVariableWord : Model → VarName → List ℕ → Type 0
-IsVariableWord model name word = (text : NameText) × (Spells word text × NamesVariable model text name)
+IsVariableWord model name word = SaysVariable model name word
 
 -- ---- lines
 
@@ -124,6 +131,27 @@ IsLineOnVariable model first name value line =
     × ((shown : List ℕ) × (IsValueText model kind value shown
     × (line ≡ first ++ (codes " " ++ (word ++ (codes " " ++ shown)))))))))
 
+-- an argument of a constraint as it is written: a variable by its name, and a value as one of the kind in which it is read
+abbrev pub IsArgumentText : Model → Option ValueKind → ConArg → List ℕ → Type 0
+IsArgumentText model kind (Var name) word = IsVariableWord model name word
+IsArgumentText model (Some kind) (Value value) word = IsValueText model kind value word
+IsArgumentText model None (Value value) word = ⊥
+
+-- a constraint that may be posted, with its arguments, of which there are some, each in the kind in which it is read
+pub record IsPostLine (model : Model) (kind : Kind) (arguments : List ConArg) (line : List ℕ) : Type 0 where
+  pub posted : IsPosted kind
+  pub some : 0 < length arguments
+  pub among : Option ValueKind
+  pub is_among : IsFirstKind model (compared kind arguments) among
+  pub words : List (List ℕ)
+  pub are : AllPlaced (λ place. IsArgumentText model (kind_at kind among place)) 0 arguments words
+  pub whole : line ≡ spaced (codes "post" ∷ constraint_word kind ∷ words)
+
+-- a relation with the names of two tokens
+abbrev pub IsRelateLine : Model → Rel → TokenName → TokenName → List ℕ → Type 0
+IsRelateLine model relation one other line =
+    (rest : List ℕ) × (IsLineOnTokens model (relation_word relation) one other rest × (line ≡ codes "relate " ++ rest))
+
 -- the decision as the command that makes it
 abbrev pub IsDecisionLine : Model → Decision → List ℕ → Type 0
 IsDecisionLine model (Specify name value) line = IsLineOnVariable model (codes "specify") name value line
@@ -131,6 +159,8 @@ IsDecisionLine model (Activate token) line = IsLineOnToken model (codes "activat
 IsDecisionLine model (Merge token target) line = IsLineOnTokens model (codes "merge") token target line
 IsDecisionLine model (Reject token) line = IsLineOnToken model (codes "reject") token line
 IsDecisionLine model (Order one other) line = IsLineOnTokens model (codes "order") one other line
+IsDecisionLine model (Constrain kind arguments) line = IsPostLine model kind arguments line
+IsDecisionLine model (Relate relation one other) line = IsRelateLine model relation one other line
 
 -- ---- time edges
 

@@ -1,10 +1,13 @@
 -- What was written behind old bytes.
-use Rattle.std.specs.Prelude.{◌≡◌, ℕ, ℤ, List, ◌++◌}
+use Rattle.std.specs.Prelude.{◌≡◌, ℕ, ℤ, Option, List, ◌++◌, codes}
 use Rattle.std.specs.List.{AllZip, flat_map}
+use Rattle.domain_core.specs.declared.kind.Kind.{Kind}
+use Rattle.model_core.specs.declared.decision.ConArg.{ConArg}
 use Rattle.model_core.specs.declared.model.Model.{Model}
 use Rattle.model_core.specs.declared.variable.ValueKind.{ValueKind}
 use Rattle.plan_text.specs.Values.{IsValueText}
-use Rattle.session_replies.specs.Lines.{with_line_feed, counted_lines, spaced}
+use Rattle.script_lang.specs.Compared.{kind_at, AllPlaced}
+use Rattle.session_replies.specs.Lines.{with_line_feed, counted_lines, spaced, IsArgumentText}
 
 -- a piece that is so was written behind the old bytes
 abbrev pub Writes : (List ℕ → Type 0) → List ℕ → List ℕ → Type 0
@@ -32,3 +35,9 @@ WritesCounted word IsLine items old new =
 abbrev pub WritesMembers : Model → ValueKind → List ℤ → List ℕ → List ℕ → Type 0
 WritesMembers model kind members old new =
     (words : List (List ℕ)) × (AllZip (IsValueText model kind) members words × (new ≡ old ++ spaced words))
+
+-- the arguments of a constraint, each in the kind in which it is read and behind a space
+abbrev pub WritesArguments : Model → Kind → Option ValueKind → List ConArg → List ℕ → List ℕ → Type 0
+WritesArguments model kind among arguments old new =
+    (words : List (List ℕ)) × (AllPlaced (λ place. IsArgumentText model (kind_at kind among place)) 0 arguments words
+    × (new ≡ old ++ flat_map (λ word. codes " " ++ word) words))

@@ -1,18 +1,24 @@
 //! The lines of decisions.
 
-ghost use Rattle.std.specs.Prelude.{◌≡◌, List, ℕ, All, OnOk, codes};
+ghost use Rattle.std.specs.Prelude.{◌≡◌, List, ℕ, All, Option, OnOk, codes};
+ghost use Rattle.model_core.specs.declared.variable.ValueKind.{ValueKind};
 ghost use Rattle.model_core.specs.Lawful.{IsLawful, IsToken};
 ghost use Rattle.plan_defs.specs.Refusals.{IsDeclared};
-ghost use Rattle.session_replies.specs.Lines.{IsDecisionLine, IsLineOnToken, IsLineOnTokens, IsLineOnVariable};
-ghost use Rattle.session_replies.specs.Writable.{IsWritable};
-ghost use Rattle.session_replies.specs.Written.{Writes, WritesCounted, WritesLines};
+ghost use Rattle.script_lang.specs.Compared.{compared, IsFirstKind};
+ghost use Rattle.session_replies.specs.Lines.{IsArgumentText, IsDecisionLine, IsLineOnToken, IsLineOnTokens, IsLineOnVariable, IsPostLine, IsRelateLine};
+ghost use Rattle.session_replies.specs.Writable.{IsArgumentWritable, IsPostWritable, IsWritable};
+ghost use Rattle.session_replies.specs.Written.{Writes, WritesArguments, WritesBehind, WritesCounted, WritesLines};
 
 use super::counting::{put_count_line, put_line_feed, put_text};
+use domain_core::kind::Kind;
 use eu_name::name::{TokenName, VarName};
-use model_core::decision::Decision;
+use model_core::decision::{ConArg, Decision};
+use model_core::item::Rel;
 use model_core::model::Model;
-use plan_text::writing::{put_shown, put_token, put_variable};
-use script_lang::kind_of;
+use model_core::variable::ValueKind;
+use plan_text::writing::{put_shown, put_token, put_variable, put_word};
+use script_lang::compared::{kind_among, kind_at};
+use script_lang::kind_words::{constraint_word, relation_word};
 use std::alloc::{AllocError, Global};
 
 /// The word and the name of the token.
@@ -64,7 +70,82 @@ fn put_on_variable(
 {
     put_text(out, first)?;
     put_variable(out, b" ", alloc, model, name)?;
-    put_shown(out, b" ", model, kind_of(model, name), value)
+    put_shown(out, b" ", model, model.kind_of(name), value)
+}
+
+// The argument, behind a space.
+fn put_argument(
+    out: &mut Vec<u8>,
+    alloc: Global,
+    model: &Model,
+    kind: Option<ValueKind>,
+    argument: &ConArg,
+) -> Result<(), AllocError>
+    requires lawful { IsLawful model.now }
+    requires writable { IsArgumentWritable model.now kind argument.now }
+    ensures { OnOk result (WritesBehind (codes " ") (IsArgumentText model.now kind argument.now) out.old.items out.new.items) }
+{
+    match argument {
+        ConArg::Var(name) => put_variable(out, b" ", alloc, model, name),
+        ConArg::Value(value) => match kind {
+            Some(kind) => put_shown(out, b" ", model, kind, *value),
+            None => unreachable!(),
+        },
+    }
+}
+
+// The arguments of the constraint, each behind a space.
+fn put_arguments(
+    out: &mut Vec<u8>,
+    alloc: Global,
+    model: &Model,
+    kind: Kind,
+    arguments: &[ConArg],
+) -> Result<(), AllocError>
+    requires lawful { IsLawful model.now }
+    requires writable { IsPostWritable model.now kind arguments.now }
+    ensures { OnOk result ((among : Option ValueKind) × (IsFirstKind model.now (compared kind arguments.now) among
+        × WritesArguments model.now kind among arguments.now out.old.items out.new.items)) }
+{
+    let among = kind_among(model, kind, arguments);
+    for (place, argument) in arguments.iter().enumerate() {
+        put_argument(out, alloc, model, kind_at(kind, among, place), argument)?;
+    }
+    Ok(())
+}
+
+// The command that posts the constraint.
+fn put_post(
+    out: &mut Vec<u8>,
+    alloc: Global,
+    model: &Model,
+    kind: Kind,
+    arguments: &[ConArg],
+) -> Result<(), AllocError>
+    requires lawful { IsLawful model.now }
+    requires writable { IsPostWritable model.now kind arguments.now }
+    ensures { OnOk result (Writes (IsPostLine model.now kind arguments.now) out.old.items out.new.items) }
+{
+    put_word(out, b"post ", constraint_word(kind))?;
+    put_arguments(out, alloc, model, kind, arguments)
+}
+
+// The command that makes the relation hold.
+fn put_relate(
+    out: &mut Vec<u8>,
+    alloc: Global,
+    model: &Model,
+    relation: Rel,
+    one: &TokenName,
+    other: &TokenName,
+) -> Result<(), AllocError>
+    requires lawful { IsLawful model.now }
+    requires one { IsToken model.now one.now }
+    requires other { IsToken model.now other.now }
+    ensures { OnOk result (Writes (IsRelateLine model.now relation one.now other.now) out.old.items out.new.items) }
+{
+    put_text(out, b"relate ")?;
+    put_on_tokens(out, alloc, model, relation_word(relation), one, other)
 }
 
 // The command that makes the decision.
@@ -88,6 +169,12 @@ fn put_decision(
         }
         Decision::Reject(token) => put_on_token(out, alloc, model, b"reject", token),
         Decision::Order(one, other) => put_on_tokens(out, alloc, model, b"order", one, other),
+        Decision::Constrain(kind, arguments) => {
+            put_post(out, alloc, model, *kind, arguments.as_slice())
+        }
+        Decision::Relate(relation, one, other) => {
+            put_relate(out, alloc, model, *relation, one, other)
+        }
     }
 }
 

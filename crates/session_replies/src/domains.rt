@@ -15,7 +15,6 @@ use eu_name::name::VarName;
 use model_core::model::Model;
 use model_core::variable::ValueKind;
 use plan_text::writing::{put_decimal, put_number, put_shown, put_variable};
-use script_lang::kind_of;
 use std::alloc::{AllocError, Global};
 
 // The value at this place of the domain.
@@ -128,6 +127,6 @@ pub fn put_domain_line(
     ensures { OnOk result (WritesLine (IsDomainLine model.now variable.now domain.now) out.old.items out.new.items) }
 {
     put_variable(out, b"", alloc, model, variable)?;
-    put_domain(out, model, kind_of(model, variable), domain)?;
+    put_domain(out, model, model.kind_of(variable), domain)?;
     put_line_feed(out)
 }

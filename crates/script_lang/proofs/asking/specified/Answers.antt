@@ -2,8 +2,8 @@ use Rattle.std.proofs.Common.{sym, subst, FitsSigned, w32, rules}
 use Rattle.std.proofs.lemmas.Int.{to_z-of_z}
 use Rattle.model_core.specs.declared.model.Model.{Model}
 use Rattle.model_core.specs.declared.variable.Base.{Base}
+use Rattle.model_core.specs.Kinds.{IsVariableOfKind}
 use Rattle.model_core.specs.Variables.{HasBase}
-use Rattle.script_lang.specs.Naming.{IsVariableOfKind}
 use Rattle.script_lang.proofs.Asked.{specified_none, specified_some}
 use Rattle.script_lang.proofs.asking.specified.Goals as goal
 

@@ -1,9 +1,10 @@
-use Rattle.std.proofs.Common.{ℤ, sym, subst, codes}
+use Rattle.std.proofs.Common.{ℤ, List, sym, subst, codes}
 use Rattle.std.specs.Prelude.{OnOk}
-use Rattle.model_core.specs.declared.decision.Decision.TheVariants.{Specify, Activate, Merge, Reject, Order}
+use Rattle.model_core.specs.declared.decision.ConArg.{ConArg}
+use Rattle.model_core.specs.declared.decision.Decision.TheVariants.{Specify, Activate, Merge, Reject, Order, Constrain, Relate}
 use Rattle.plan_defs.specs.Refusals.{IsDeclared}
-use Rattle.session_replies.specs.Lines.{IsLineOnVariable}
-use Rattle.session_replies.specs.Writable.{IsWritable}
+use Rattle.session_replies.specs.Lines.{IsLineOnVariable, IsPostLine}
+use Rattle.session_replies.specs.Writable.{IsPostWritable, IsWritable}
 use Rattle.session_replies.specs.Written.{Writes}
 use Rattle.session_replies.proofs.Commanding.{declared_kept, decision_line}
 use Rattle.session_replies.proofs.decisions.put_decision.Goals as goal
@@ -52,3 +53,23 @@ returns-in-Reject c =
 pub returns-in-Order : goal.returns-in-Order
 returns-in-Order c =
     decision_line c.args.model.now c.args.decision.now (Order c.in-Order.one c.in-Order.other) c.args.out.now.items c.put_on_tokens-in-Order.new.out.items c.put_on_tokens-in-Order.result c.in-Order.is c.put_on_tokens-in-Order.ensures
+
+pub put_post-requires-clause-writable : goal.put_post-requires-clause-writable
+put_post-requires-clause-writable c =
+    subst (IsPostWritable c.args.model.now c.in-Constrain.kind) (sym c.as_slice.ensures) (subst (IsWritable c.args.model.now) c.in-Constrain.is c.requires.writable)
+
+pub put_relate-requires-clause-one : goal.put_relate-requires-clause-one
+put_relate-requires-clause-one c = (subst (IsWritable c.args.model.now) c.in-Relate.is c.requires.writable).0
+
+pub put_relate-requires-clause-other : goal.put_relate-requires-clause-other
+put_relate-requires-clause-other c = (subst (IsWritable c.args.model.now) c.in-Relate.is c.requires.writable).1
+
+pub returns-in-Constrain : goal.returns-in-Constrain
+returns-in-Constrain c =
+    decision_line c.args.model.now c.args.decision.now (Constrain c.in-Constrain.kind c.in-Constrain.arguments) c.args.out.now.items c.put_post.new.out.items c.put_post.result c.in-Constrain.is
+    (subst (λ (arguments : List ConArg). OnOk c.put_post.result (Writes (IsPostLine c.args.model.now c.in-Constrain.kind arguments) c.args.out.now.items c.put_post.new.out.items)) c.as_slice.ensures
+    c.put_post.ensures)
+
+pub returns-in-Relate : goal.returns-in-Relate
+returns-in-Relate c =
+    decision_line c.args.model.now c.args.decision.now (Relate c.in-Relate.relation c.in-Relate.one c.in-Relate.other) c.args.out.now.items c.put_relate.new.out.items c.put_relate.result c.in-Relate.is c.put_relate.ensures
