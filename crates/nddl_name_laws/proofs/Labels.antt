@@ -46,7 +46,7 @@ use Rattle.nddl_name_laws.specs.Named.{LabelsDenoteTokens, made_world}
 use Rattle.nddl_name_laws.proofs.Names.{from, object_found, there_named}
 
 -- nothing is wrong with the text of the problem in any declaration
-problem_fine : (facts : Facts) (number : ℕ) (program : List Decl) (place : ℕ) (decl : Decl) → problem_faults_from facts number program ≡ []
+pub problem_fine : (facts : Facts) (number : ℕ) (program : List Decl) (place : ℕ) (decl : Decl) → problem_faults_from facts number program ≡ []
     → slice_get program place ≡ Some decl → problem_decl_faults facts (number + place) decl ≡ []
 problem_fine facts number [] place decl none at = absurd (none-some decl at)
 problem_fine facts number (here ∷ program) zero decl none at =

@@ -173,7 +173,7 @@ module _ (program : List Decl) where
       (all_from 0 0 program (λ offset decl here. let e : offset ≡ 0 + offset = omega arith in sym (ap (slice_get program) e) ∙ here)) at
 
 -- a name of anything but a class is the first of its spelling
-own_first : (facts : Facts) → all_faults facts ≡ [] → (entry : ℕ) (declared : Declared) → slice_get facts.names entry ≡ Some declared
+pub own_first : (facts : Facts) → all_faults facts ≡ [] → (entry : ℕ) (declared : Declared) → slice_get facts.names entry ≡ Some declared
     → is_class_sort declared.sort ≡ false → named_number false facts.names declared.name ≡ Some entry
 own_first facts fine entry declared at plain =
     let position = some_position (is_named false declared.name) facts.names 0 entry declared at ((bytes_eq-Decides declared.name declared.name).1 refl) in
@@ -283,12 +283,12 @@ object_kind (kinds.Enum of) is = absurd (cc)
 
 -- ---- objects by their classes
 
-map_contains : {X Y : Type 0} (f : X → Y) (xs : List X) (x : X) → Contains xs x → Contains (map f xs) (f x)
+pub map_contains : {X Y : Type 0} (f : X → Y) (xs : List X) (x : X) → Contains xs x → Contains (map f xs) (f x)
 map_contains f xs x has =
     contains_at (map f xs) has.0 (f x)
     (slice_get-map f xs has.0 ∙ ap (option_map f) (item_at xs has.0 x has.1 ∙ ap (λ y. Some y) has.2))
 
-listed : (facts : Facts) (class : Meaning) (start number : ℕ) (objects : List MadeObject) (object : MadeObject) → slice_get objects number ≡ Some object
+pub listed : (facts : Facts) (class : Meaning) (start number : ℕ) (objects : List MadeObject) (object : MadeObject) → slice_get objects number ≡ Some object
     → is_of_class facts class object.class ≡ true → Contains (objects_of facts class start objects) (start + number)
 listed facts class start number [] object at is = absurd (none-some object at)
 listed facts class start zero (here ∷ more) object at is =

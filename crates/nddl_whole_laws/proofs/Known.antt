@@ -23,12 +23,10 @@ use Rattle.nddl_laws.proofs.Knowledge.{one_facts}
 use Rattle.nddl_laws.proofs.Nothing.{none_first}
 use Rattle.nddl_model_laws.specs.Faultless.{IsFaultless}
 use Rattle.nddl_model_laws.proofs.Grounds.{known_are, known_decls, known_fine, known_right, objects_fine, problem_fine}
-use Rattle.nddl_model_laws.proofs.Joining.{rest_makes_lawful}
 use Rattle.nddl_model_laws.proofs.Lined.{Lined}
 use Rattle.nddl_model_laws.proofs.Making.{IsNamedObject}
 use Rattle.nddl_model_laws.proofs.Programmed.{both_none, last_sound, written_fine}
 use Rattle.nddl_model_laws.proofs.Sounding.{IsSound, meant_line}
-use Rattle.nddl_whole_laws.specs.Left.{LeftMakesLawful}
 use Rattle.nddl_whole_laws.specs.Whole.{HasAll, HorizonsAreRight, ObjectsAreSet, ResourcesKeepBounds}
 use Rattle.nddl_whole_laws.proofs.Horizon.{AreRight, last_settings, settings_right}
 use Rattle.nddl_whole_laws.proofs.Leading.{AreFull}
@@ -79,14 +77,14 @@ module _ (known : Known) (is : IsFaultless known) where
   set_all : All (HasAll known.facts) made
   set_all = all_numbered (HasAll known.facts) made (λ number object at. (full number object at).set)
 
-  kinds_right : All (λ (object : Object). IsLawfulKind object.kind) (compiled_model known).objects
+  pub kinds_right : All (λ (object : Object). IsLawfulKind object.kind) (compiled_model known).objects
   kinds_right =
       let M : MadeObject → Object = modelled_object known.facts known.table.classes in
       All-map (λ (object : Object). IsLawfulKind object.kind) M made
       (all_numbered (λ (object : MadeObject). IsLawfulKind (M object).kind) made
       (λ number object at. kind_right known.facts made object (line_of number object at) (sound.typed number object at) (full number object at)))
 
-  horizon_right : IsHorizon (compiled_model known).problem
+  pub horizon_right : IsHorizon (compiled_model known).problem
   horizon_right =
       let R : Facts → Type 0 = λ facts. AreRight (last_progress facts).settings in
       let facts = is.is_table.facts in
@@ -103,18 +101,3 @@ bounds_kept known is = kinds_right known is
 
 pub horizons_right : HorizonsAreRight
 horizons_right known is = horizon_right known is
-
-pub left_lawful : LeftMakesLawful
-left_lawful known is ruled left =
-    rest_makes_lawful known is ruled (record {
-      horizon = horizon_right known is;
-      few_rules = left.few_rules;
-      few_globals = left.few_globals;
-      few_items = left.few_items;
-      kinds = kinds_right known is;
-      roots = left.roots;
-      globals = left.globals;
-      items = left.items;
-      decisions = left.decisions;
-      objects_differ = left.objects_differ;
-    })

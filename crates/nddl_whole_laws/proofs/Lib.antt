@@ -8,3 +8,12 @@ pub mod Turns
 pub mod Levels
 pub mod Horizon
 pub mod Known
+pub mod Fronts
+pub mod Belonging
+pub mod Climbing
+pub mod Things
+pub mod Exact
+pub mod Roots
+pub mod Standing
+pub mod Globals
+pub mod Ruling

@@ -1,5 +1,5 @@
 -- That each field of each object is set to something, and what follows: resources and the horizon of a search are as they should
--- be.
+-- be, and all that is read in rules means something.
 use Rattle.std.specs.Prelude.{◌≡◌, ℕ, true, List, Some, All}
 use Rattle.model_core.specs.Lawful.{IsHorizon, IsLawfulKind}
 use Rattle.nddl_hierarchy.specs.Facts.{Facts}
@@ -9,7 +9,9 @@ use Rattle.nddl_construction.specs.declared.made.Datum.{Datum}
 use Rattle.nddl_construction.specs.declared.made.MadeObject.{MadeObject}
 use Rattle.nddl_construction.specs.Fields.{field_datum}
 use Rattle.nddl_problem.specs.Compiled.{compiled_model}
-use Rattle.nddl_problem.specs.Known.{Known, progress_known}
+use Rattle.nddl_problem.specs.Known.{Known, objects_known, progress_known, world_known}
+use Rattle.nddl_rule_laws.specs.Meanings.{AreFaultless}
+use Rattle.nddl_name_laws.specs.Named.{AreWhole}
 use Rattle.nddl_model_laws.specs.Faultless.{IsFaultless}
 
 -- the object is set to something in each field of its class
@@ -29,3 +31,14 @@ ResourcesKeepBounds = (known : Known) → IsFaultless known → All (λ object. 
 -- a search has a horizon and a number of steps as it may have them
 abbrev pub HorizonsAreRight : Type 0
 HorizonsAreRight = (known : Known) → IsFaultless known → IsHorizon (compiled_model known).problem
+
+-- each object has something in each of its fields, in one of objects one of the field's class
+abbrev pub ObjectsAreWhole : Type 0
+ObjectsAreWhole = (known : Known) → IsFaultless known → AreWhole (world_known known) (objects_known known)
+
+-- so the files are faultless with these objects: what is read in their trees means something, and what is counted of them is
+-- what their rules have
+abbrev pub FilesAreFaultless : Type 0
+FilesAreFaultless =
+    (known : Known) → IsFaultless known
+    → AreFaultless known.files known.table known.trees (world_known known) (objects_known known)
