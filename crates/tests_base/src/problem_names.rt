@@ -8,11 +8,13 @@ use super::names;
 use super::rows::{Row, assert_rows};
 use super::sample::sample;
 use Named::{Token, Variable};
+use domain_core::kind::Kind;
 use eu_name::name::{Part, TokenName, VarName};
 use eu_name::name_text::NameText;
 use eu_name::reading::read_name;
 use eu_name::sequence::Sequence;
-use model_core::decision::Decision;
+use model_core::decision::{ConArg, Decision};
+use model_core::item::Rel;
 use model_core::model::Model;
 use std::alloc::Global;
 
@@ -170,7 +172,7 @@ fn texts_name_variables(rt: HostRuntime) {
     assert_rows(&rt, &VARIABLES);
 }
 
-/// A kind of decision, and the numbers in it: a variable and its value, or roots.
+/// A kind of decision, and the numbers in it: a variable and a value, or roots.
 struct CopiesDecision(&'static str, u32, i32);
 
 impl Row for CopiesDecision {
@@ -180,12 +182,14 @@ impl Row for CopiesDecision {
     }
 }
 
-static DECISIONS: [CopiesDecision; 5] = [
+static DECISIONS: [CopiesDecision; 7] = [
     CopiesDecision("specify", 7, -5),
     CopiesDecision("activate", 1, 0),
     CopiesDecision("reject", 2, 0),
     CopiesDecision("merge", 3, 4),
     CopiesDecision("order", 5, 6),
+    CopiesDecision("constrain", 8, -9),
+    CopiesDecision("relate", 6, 5),
 ];
 
 fn root(alloc: Global, number: u32) -> TokenName {
@@ -195,6 +199,19 @@ fn root(alloc: Global, number: u32) -> TokenName {
     }
 }
 
+// That the variable is at most the value.
+fn constrained(alloc: Global, number: u32, value: i32) -> Decision {
+    let mut arguments = Sequence::new(alloc);
+    let _first = arguments.push(ConArg::Var(VarName::Global(number)));
+    let _second = arguments.push(ConArg::Value(value));
+    Decision::Constrain(Kind::Leq, arguments)
+}
+
+// That the one root is before the other.
+fn related(alloc: Global, number: u32, other: u32) -> Decision {
+    Decision::Relate(Rel::Before, root(alloc, number), root(alloc, other))
+}
+
 fn decision(alloc: Global, kind: &str, number: u32, other: i32) -> Decision {
     let second = other.unsigned_abs();
     match kind {
@@ -202,8 +219,40 @@ fn decision(alloc: Global, kind: &str, number: u32, other: i32) -> Decision {
         "reject" => Decision::Reject(root(alloc, number)),
         "merge" => Decision::Merge(root(alloc, number), root(alloc, second)),
         "order" => Decision::Order(root(alloc, number), root(alloc, second)),
+        "constrain" => constrained(alloc, number, other),
+        "relate" => related(alloc, number, second),
         _ => Decision::Specify(VarName::Global(number), other),
     }
+}
+
+// The variable and the value among the arguments.
+fn compared(arguments: &[ConArg]) -> (u32, i64) {
+    let mut found = (0, 0);
+    for argument in arguments {
+        match argument {
+            ConArg::Var(VarName::Global(number)) => found.0 = *number,
+            ConArg::Var(_) => {}
+            ConArg::Value(value) => found.1 = i64::from(*value),
+        }
+    }
+    found
+}
+
+// The constraint in a word and its numbers.
+fn constraint_summary(kind: Kind, arguments: &[ConArg]) -> (&'static str, u32, i64) {
+    let (number, value) = compared(arguments);
+    let word = if kind == Kind::Leq { "constrain" } else { "" };
+    (word, number, value)
+}
+
+// The relation in a word and its numbers.
+fn relation_summary(relation: Rel, one: &TokenName, other: &TokenName) -> (&'static str, u32, i64) {
+    let word = if relation == Rel::Before {
+        "relate"
+    } else {
+        ""
+    };
+    (word, one.root, i64::from(other.root))
 }
 
 // The decision in a word and its numbers.
@@ -219,6 +268,8 @@ fn summary(decision: &Decision) -> (&'static str, u32, i64) {
         Decision::Reject(token) => ("reject", token.root, 0),
         Decision::Merge(token, target) => ("merge", token.root, i64::from(target.root)),
         Decision::Order(first, second) => ("order", first.root, i64::from(second.root)),
+        Decision::Constrain(kind, arguments) => constraint_summary(*kind, arguments.as_slice()),
+        Decision::Relate(relation, one, other) => relation_summary(*relation, one, other),
     }
 }
 

@@ -6,7 +6,7 @@ ghost use Rattle.plan_db.specs.Database.{IsSound};
 ghost use Rattle.plan_defs.specs.Plans.{IsPlanOf};
 ghost use Rattle.tests_database.specs.Seen.{IsSeenOf};
 
-use super::names::{decision, is_same_decision, token, variable};
+use super::names::{decision, token, variable};
 use super::steps::Fate;
 use domain_core::domain::Dom;
 use eu_name::name::{TokenName, VarName};
@@ -230,7 +230,7 @@ fn is_choice(alloc: Global, model: &Model, found: &Decision, choice: Option<&str
         return false;
     };
     match decision(alloc, model, choice) {
-        Some(wanted) => is_same_decision(found, &wanted),
+        Some(wanted) => found == &wanted,
         None => false,
     }
 }

@@ -2,10 +2,13 @@
 
 ghost use Rattle.model_core.specs.Lawful.{IsLawful};
 
+use domain_core::kind::Kind;
 use eu_name::name::{TokenName, VarName};
 use eu_name::name_text::NameText;
 use eu_name::reading::read_name;
-use model_core::decision::Decision;
+use eu_name::sequence::Sequence;
+use model_core::decision::{ConArg, Decision};
+use model_core::item::Rel;
 use model_core::model::Model;
 use plan_db::Subject;
 use std::alloc::Global;
@@ -98,6 +101,104 @@ fn ordered(tokens: Option<(TokenName, TokenName)>) -> Option<Decision> {
     }
 }
 
+// The constraint of this word; `field` is one of the first field of an object.
+fn kind_named(word: &str) -> Option<Kind> {
+    match word {
+        "eq" => Some(Kind::Eq),
+        "neq" => Some(Kind::Neq),
+        "lt" => Some(Kind::Lt),
+        "leq" => Some(Kind::Leq),
+        "addEq" => Some(Kind::AddEq),
+        "mulEq" => Some(Kind::MulEq),
+        "testEQ" => Some(Kind::TestEq),
+        "testLEQ" => Some(Kind::TestLeq),
+        "allDiff" => Some(Kind::AllDiff),
+        "field" => Some(Kind::Field(0)),
+        _ => None,
+    }
+}
+
+// The value that the word is, or else the variable that it names.
+fn argument(alloc: Global, model: &Model, word: &str) -> Option<ConArg>
+    requires { IsLawful model.now }
+{
+    match word.parse() {
+        Ok(value) => Some(ConArg::Value(value)),
+        Err(_none) => match variable(alloc, model, word) {
+            Some(name) => Some(ConArg::Var(name)),
+            None => None,
+        },
+    }
+}
+
+// The arguments, if the model has all that they name.
+fn arguments(alloc: Global, model: &Model, words: &str) -> Option<Sequence<ConArg>>
+    requires { IsLawful model.now }
+{
+    let mut found = Sequence::new(alloc);
+    for word in words.split(' ') {
+        match argument(alloc, model, word) {
+            Some(argument) => {
+                if found.push(argument).is_err() {
+                    return None;
+                }
+            }
+            None => return None,
+        }
+    }
+    Some(found)
+}
+
+// The constraint, with its arguments.
+fn constraint(alloc: Global, model: &Model, words: &str) -> Option<(Kind, Sequence<ConArg>)>
+    requires { IsLawful model.now }
+{
+    let (word, rest) = parts(words);
+    match kind_named(word) {
+        Some(kind) => match arguments(alloc, model, rest) {
+            Some(arguments) => Some((kind, arguments)),
+            None => None,
+        },
+        None => None,
+    }
+}
+
+// The relation of this word, of some.
+fn relation_named(word: &str) -> Option<Rel> {
+    match word {
+        "before" => Some(Rel::Before),
+        "meets" => Some(Rel::Meets),
+        "equals" => Some(Rel::Equals),
+        _ => None,
+    }
+}
+
+// The relation, with its tokens.
+fn relation(alloc: Global, model: &Model, words: &str) -> Option<(Rel, TokenName, TokenName)>
+    requires { IsLawful model.now }
+{
+    let (word, names) = parts(words);
+    let (one, other) = parts(names);
+    match (relation_named(word), tokens(alloc, model, one, other)) {
+        (Some(relation), Some((first, second))) => Some((relation, first, second)),
+        _ => None,
+    }
+}
+
+fn posted(constraint: Option<(Kind, Sequence<ConArg>)>) -> Option<Decision> {
+    match constraint {
+        Some((kind, arguments)) => Some(Decision::Constrain(kind, arguments)),
+        None => None,
+    }
+}
+
+fn related(relation: Option<(Rel, TokenName, TokenName)>) -> Option<Decision> {
+    match relation {
+        Some((relation, first, second)) => Some(Decision::Relate(relation, first, second)),
+        None => None,
+    }
+}
+
 /// The first word, and what follows it.
 pub fn parts(words: &str) -> (&str, &str) {
     words.split_once(' ').unwrap_or((words, ""))
@@ -115,6 +216,8 @@ pub fn decision(alloc: Global, model: &Model, choice: &str) -> Option<Decision>
         "merge" => merged(tokens(alloc, model, one, other)),
         "reject" => rejected(token(alloc, model, one)),
         "order" => ordered(tokens(alloc, model, one, other)),
+        "post" => posted(constraint(alloc, model, names)),
+        "relate" => related(relation(alloc, model, names)),
         _ => None,
     }
 }
@@ -140,6 +243,20 @@ fn on_order(tokens: Option<(TokenName, TokenName)>) -> Option<Subject> {
     }
 }
 
+fn on_constraint(constraint: Option<(Kind, Sequence<ConArg>)>) -> Option<Subject> {
+    match constraint {
+        Some((kind, arguments)) => Some(Subject::Constraint(kind, arguments)),
+        None => None,
+    }
+}
+
+fn on_relation(relation: Option<(Rel, TokenName, TokenName)>) -> Option<Subject> {
+    match relation {
+        Some((relation, first, second)) => Some(Subject::Relation(relation, first, second)),
+        None => None,
+    }
+}
+
 /// What a decision is on, where the model has it.
 pub fn subject(alloc: Global, model: &Model, on: &str) -> Option<Subject>
     requires { IsLawful model.now }
@@ -149,21 +266,8 @@ pub fn subject(alloc: Global, model: &Model, on: &str) -> Option<Subject>
     match word {
         "variable" => on_variable(variable(alloc, model, one)),
         "token" => on_token(token(alloc, model, one)),
+        "constraint" => on_constraint(constraint(alloc, model, names)),
+        "relation" => on_relation(relation(alloc, model, names)),
         _ => on_order(tokens(alloc, model, one, other)),
-    }
-}
-
-/// Whether two decisions are the same.
-pub fn is_same_decision(one: &Decision, other: &Decision) -> bool {
-    match (one, other) {
-        (Decision::Specify(name, value), Decision::Specify(other, number)) => name == other
-            && value == number,
-        (Decision::Activate(token), Decision::Activate(other)) => token == other,
-        (Decision::Merge(token, target), Decision::Merge(other, aim)) => token == other
-            && target == aim,
-        (Decision::Reject(token), Decision::Reject(other)) => token == other,
-        (Decision::Order(first, second), Decision::Order(other, last)) => first == other
-            && second == last,
-        _ => false,
     }
 }

@@ -192,6 +192,63 @@ order base base | Refused(Same)
 reset token here | Refused(NoSuchDecision)
 stand specify total 4, activate drill
 history | 2
+== a constraint that is posted takes each argument in its kind
+post leq total 3 | Fits
+domain total | 0 3 4
+post leq total 3 | Refused(Decided)
+post leq here/0!0 3 | Refused(Unknown)
+post leq total | Refused(WrongType)
+post leq 1 2 | Refused(WrongType)
+post eq total mode | Refused(WrongType)
+post lt mode 1 | Refused(WrongType)
+post testEQ total total 3 | Refused(WrongType)
+post mulEq total 0 total | Refused(WrongType)
+post mulEq total total 3 | Refused(WrongType)
+post allDiff total 3 | Refused(WrongType)
+post field here.object 3 | Refused(WrongType)
+post leq total 1000001 | Refused(NotInDomain)
+# what no line of a script can say: values that have no text in their kind
+post eq mode 2 | Refused(NotInDomain)
+post eq on 2 | Refused(NotInDomain)
+post eq here.object 9 | Refused(NotInDomain)
+post testEQ 2 total 3 | Refused(NotInDomain)
+post leq there.start 3 | Refused(NotActive)
+reset constraint leq total 4 | Refused(NoSuchDecision)
+reset constraint leq total 3 | Fits
+domain total | 0 5 6
+history | 2
+undo | Fits
+domain total | 0 3 4
+stand post leq total 3
+backtrack | Done
+domain total | 0 5 6
+== a relation compares times, whether its tokens are active or not
+relate before here there | Refused(NotActive)
+relate before there there | Refused(NotActive)
+relate before here here | Refused(Same)
+relate before base here | Fits
+domain here.start | 1 9 9
+domain base.end | 1 9 9
+relate before base here | Refused(Decided)
+ordered base here | false
+reset relation before here base | Refused(NoSuchDecision)
+reset relation before base here | Fits
+domain here.start | 0 9 10
+undo | Fits
+domain here.start | 1 9 9
+rebuild | Done
+domain here.start | 1 9 9
+stand relate before base here
+== what is posted falls with a rejectable that is no longer taken
+activate there | Fits
+post leq there.start 4 | Fits
+relate before there here | Fits
+domain there.start | 0 4 5
+reset token there | Fits
+stand
+undo | Fits
+stand activate there, post leq there.start 4, relate before there here
+domain there.start | 0 4 5
 == the plan of a state, where nothing is open
 specify total 4 | Fits
 specify !1 0 | Fits
@@ -360,6 +417,17 @@ history | 7
 undo | Fits
 domain three.start | 2 9 8
 no reason | Consistent
+== what is posted has a part in conflicts and in cycles
+activate one | Fits
+activate two | Fits
+post lt one.end two.start | Fits
+domain two.start | 2 9 8
+relate meets two one | Fails
+why post lt one.end two.start, relate meets two one
+cycle one.start 1 one.end, one.end 1 two.start, two.start 1 two.end, two.end 0 one.start
+undo | Fits
+no reason | Consistent
+domain two.start | 2 9 8
 == a duration that is decided last is read from the decision
 activate one | Fits
 specify one.start 4 | Fits

@@ -21,6 +21,8 @@ mod misuse;
 #[cfg(test)]
 mod plans;
 #[cfg(test)]
+mod posts;
+#[cfg(test)]
 mod rows;
 #[cfg(test)]
 mod runs;

@@ -161,6 +161,10 @@ reset x
 >>specify x 1
 solve 1 1
 reset y
+post leq x y
+relate before g h
+withdraw leq x y
+unrelate before g h
 undo
 specify x 1
 reset x
@@ -169,6 +173,10 @@ reset x
 <<50000 ok
 ok
 >>refused full
+refused full
+refused full
+refused full
+refused full
 refused full
 refused full
 ok

@@ -61,7 +61,14 @@ end
 == PAIR
 class L extends Timeline { predicate A { } } PlannerConfig p = new PlannerConfig(0, 10, 100); L l = new L(); close(); goal(l.A a); \
 goal(l.A b);
-== # Three of them.
+== # Two tokens that may take place at one time.
+== FREE
+class N { predicate A { } } PlannerConfig p = new PlannerConfig(0, 10, 100); N n = new N(); close(); goal(n.A g); goal(n.A h);
+== # The same with a token that may be left out.
+== OPTIONAL
+class N { predicate A { } } PlannerConfig p = new PlannerConfig(0, 10, 100); N n = new N(); close(); goal(n.A g); goal(n.A h); \
+rejectable(n.A r);
+== # Three of one timeline.
 == THREE
 class L extends Timeline { predicate A { } } PlannerConfig p = new PlannerConfig(0, 10, 100); L l = new L(); close(); goal(l.A a); \
 goal(l.A b); goal(l.A e);

@@ -40,7 +40,8 @@ fn constraint_word(kind: Kind) -> &'static str {
     }
 }
 
-fn relation_word(relation: Rel) -> &'static str {
+/// The word of a relation.
+pub fn relation_word(relation: Rel) -> &'static str {
     match relation {
         Rel::Any => "any",
         Rel::Before => "before",
@@ -61,8 +62,8 @@ fn relation_word(relation: Rel) -> &'static str {
     }
 }
 
-// The word of a constraint, and for a field its number.
-fn tell_kind(kind: Kind, lines: &mut Lines) {
+/// The word of a constraint, and for a field its number.
+pub fn tell_kind(kind: Kind, lines: &mut Lines) {
     match kind {
         Kind::Field(number) => lines.numbered("field ", number),
         _ => lines.say(constraint_word(kind)),

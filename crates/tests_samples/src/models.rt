@@ -1,12 +1,13 @@
 //! What is told of a model, with a line or more for each thing that it has.
 
-use super::items::tell_item;
+use super::items::{relation_word, tell_item, tell_kind};
 use super::lines::{Lines, Told, tell_all};
 use super::variables::{tell_domain, tell_part, tell_type};
+use domain_core::kind::Kind;
 use eu_name::name::{TokenName, VarName};
 use model_core::class::{Object, ObjectKind};
-use model_core::decision::Decision;
-use model_core::item::Item;
+use model_core::decision::{ConArg, Decision};
+use model_core::item::{Item, Rel};
 use model_core::model::{Model, Placed, Problem, Root, RootKind};
 use model_core::variable::VarDecl;
 use std::alloc::{AllocError, Global};
@@ -129,7 +130,28 @@ fn decision_word(decision: &Decision) -> &'static str {
         Decision::Merge(..) => ": merge",
         Decision::Reject(_) => ": reject",
         Decision::Order(..) => ": order",
+        Decision::Constrain(..) => ": constrain ",
+        Decision::Relate(..) => ": relate ",
     }
+}
+
+fn tell_argument(argument: &ConArg, lines: &mut Lines) {
+    match argument {
+        ConArg::Var(variable) => tell_variable(variable, lines),
+        ConArg::Value(value) => lines.valued(" ", *value),
+    }
+}
+
+fn tell_constrained(kind: Kind, arguments: &[ConArg], lines: &mut Lines) {
+    tell_kind(kind, lines);
+    for argument in arguments {
+        tell_argument(argument, lines);
+    }
+}
+
+fn tell_related(relation: Rel, one: &TokenName, other: &TokenName, lines: &mut Lines) {
+    lines.say(relation_word(relation));
+    tell_tokens(one, other, lines);
 }
 
 // What is decided on, and a value.
@@ -140,6 +162,10 @@ fn tell_decided(decision: &Decision, lines: &mut Lines) {
         Decision::Merge(token, target) => tell_tokens(token, target, lines),
         Decision::Reject(token) => tell_token(token, lines),
         Decision::Order(first, second) => tell_tokens(first, second, lines),
+        Decision::Constrain(kind, arguments) => {
+            tell_constrained(*kind, arguments.as_slice(), lines)
+        }
+        Decision::Relate(relation, first, second) => tell_related(*relation, first, second, lines),
     }
 }
 
