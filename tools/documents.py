@@ -53,8 +53,10 @@ STARTS = ("```", "<!--", "|", "- ", "#")
 CELL = re.compile(r"((?:`[^`]*`|[^|`])*)\|")
 QUOTED = re.compile(r"`([^`]+)`")
 NAME = re.compile(r"[\w./-]+\.nddl")
-# How many words stand behind each command of a session.
-COMMANDS = {"specify": (2,), "activate": (1,), "merge": (2,), "reject": (1,), "order": (2,), "reset": (1, 2), "undo": (0,),
+# How many words stand behind each command of a session; behind that of a constraint its kind and some arguments.
+SOME = range(2, 100)
+COMMANDS = {"specify": (2,), "activate": (1,), "merge": (2,), "reject": (1,), "order": (2,), "post": SOME,
+            "relate": (3,), "reset": (1, 2), "withdraw": SOME, "unrelate": (3,), "undo": (0,),
             "domain": (1,), "tokens": (0,), "decisions": (0,), "flaws": (0,), "solve": (2,), "why": (0,), "cycle": (0,)}
 ANSWER = re.compile(r"`[^`]*(?:\banswers|\bprints|:) `([^`]+)`")
 FOUND = re.compile(r"` finds a plan in (\d+) visits")

@@ -167,6 +167,22 @@ def reset_in_front(size):
     return scripted(machine_with(size), [*chain(size), "reset g0"], [("ok", 2 * size)])
 
 
+def active_beside(size, edits):
+    """A Task that activates so many tokens, and then does 100 times what the edits say of two variables beside them."""
+    problem = ["int [0 10] x;", "int [0 10] y;", "class N { predicate A { } }", "N n = new N();", *(f"goal(n.A g{it});" for it in range(size))]
+    return scripted(problem, [*(f"activate g{it}" for it in range(size)), *edits * 100], [("ok", size + 100 * len(edits))])
+
+
+def specified_beside(size):
+    """active tokens, beside which a variable is specified and reset 100 times"""
+    return active_beside(size, ["specify x 4", "reset x"])
+
+
+def posted_beside(size):
+    """active tokens, beside which a constraint is posted and withdrawn 100 times"""
+    return active_beside(size, ["post leq x y", "withdraw leq x y"])
+
+
 def nested_subgoals(size):
     """subgoals one below the other that a script activates, the last of which is merged"""
     problem = ["class N { predicate A { } }", "N::A { any(object.A a); }", "N n = new N();", "goal(n.A g);", "goal(n.A h);"]
@@ -266,6 +282,8 @@ PLACES = by_name([
     (chained_orders, (96, 256, 512), Goal(seconds=2)),
     (chained_edits, (96, 256, 512), Goal()),
     (reset_in_front, (64, 128, 256), Goal(beside=("chained_orders", 2))),
+    (specified_beside, (25, 50, 100), Goal()),
+    (posted_beside, (25, 50, 100), Goal(beside=("specified_beside", 3))),
     (why_two, (500, 1000, 2000, 4000), Goal(seconds=1)),
     (why_all, (100, 200, 400), Goal()),
     (why_round, (32, 64, 128), Goal()),

@@ -1,14 +1,15 @@
 """The steps of a session, so that it can go back by more than one, go on from a file, and begin again.
 
-Each decision and each reset is a step, and what a search decides is as many as it has decisions. The steps of the
-problem's text come first.
+Each decision is a step, and so is each time that one is taken out. What a search decides is as many as it has decisions.
+The steps of the problem's text come first.
 """
 from dataclasses import dataclass
 from typing import Callable, List, Sequence
 
 from .europa import Dialogue, Reply
+from .words import DECISIONS, FURTHER_DECISIONS
 
-MAKING_STEPS = ("specify", "activate", "merge", "reject", "order", "reset")
+MAKING_STEPS = DECISIONS + FURTHER_DECISIONS + ("reset", "withdraw", "unrelate")
 CHANGED = ("ok", "inconsistent")
 
 

@@ -6,6 +6,7 @@ from typing import Iterable, List, Optional
 
 from .commands import COMMANDS
 from .session import Session, words_of
+from .words import POSTED, RELATIONS
 
 try:
     import readline
@@ -58,7 +59,8 @@ class Completer:
 
     def wanted(self, kind: str, words: List[str]) -> List[str]:
         """The names of a kind that fit behind these words."""
-        fixed = {"undo": ["solve"], "raw": ["on", "off"], "command": list(COMMANDS)}
+        fixed = {"undo": ["solve"], "raw": ["on", "off"], "command": list(COMMANDS), "constraint": list(POSTED),
+                 "relation": list(RELATIONS)}
         if kind in fixed:
             return fixed[kind]
         state = self.session.state

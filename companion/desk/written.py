@@ -3,7 +3,7 @@ import os
 from typing import Callable
 
 from .plain import plain
-from .words import DECISIONS
+from .words import DECISIONS, FURTHER_DECISIONS
 
 
 class NotWritten(Exception):
@@ -17,7 +17,7 @@ def is_page(text: str) -> bool:
 def is_saved(text: str) -> bool:
     """Whether a text has decisions alone, with comments."""
     lines = [line.split("#")[0].split() for line in text.splitlines()]
-    return all(words[0] in DECISIONS + ("order",) for words in lines if words)
+    return all(words[0] in DECISIONS + FURTHER_DECISIONS for words in lines if words)
 
 
 def is_plan(text: str) -> bool:

@@ -45,6 +45,9 @@ class Parts(unittest.TestCase):
         self.assertEqual((steps.of_search(), steps.behind_search(), len(steps.made)), (2, 1, 5))
         steps.note("undo", Reply(["ok"]))
         self.assertEqual(steps.behind_search(), 0)
+        for line in ("post leq x y", "relate before a b", "withdraw leq x y", "unrelate before a b"):
+            steps.note(line, Reply(["ok"]))
+        self.assertEqual((steps.behind_search(), len(steps.made)), (4, 8))
         self.assertEqual(same_front(["a", "b"], ["a", "c", "d"]), 1)
 
     def test_refusals_that_are_hard_to_come_by(self) -> None:
@@ -103,6 +106,20 @@ class Sessions(InFolder):
                      "only tokens of one predicate can be merged: `extra` is of Drill.Sampling",
                      "no decision on `extra` stands", "something is possible", "no step to take back"):
             self.assertIn(part, rest)
+
+    def test_what_is_posted(self) -> None:
+        told = session("ordered", "post lt x y", "post lt x y", "post lt x q", "post leq x", "post leq x 2000000", "post leq",
+                       "withdraw leq x y", "withdraw lt x y", "unrelate before x y", "undo", "decisions")
+        for part, line in zip(("ok", "stands already; `withdraw lt x y` takes it out", "`q` is neither a variable nor a value",
+                               "`leq` takes two numbers of one kind", "out of range", "`post KIND ARGUMENT ..`",
+                               "no such decision stands", "ok", "no such decision stands", "ok"), told):
+            self.assertIn(part, line)
+        self.assertIn("  post lt x y", told)
+        told = session("crew", "relate before pump day", "relate before pump day", "relate before pump pump",
+                       "relate before pump washing", "relate before pump lunch", "unrelate before pump day", "undo", "undo")
+        for part, line in zip(("ok", "`unrelate before pump day` takes it out", "`pump` can't be related to itself",
+                               "`washing` is a rejectable", "no token `lunch`", "ok", "ok", "ok"), told):
+            self.assertIn(part, line)
 
     def test_a_value_that_was_never_there(self) -> None:
         self.assertIn("was declared without the value `99`", session("ordered", "specify x 99")[0])

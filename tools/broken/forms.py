@@ -12,6 +12,12 @@ LOCAL = rf"{TOKEN}/{NUMBER}!{NUMBER}"
 GLOBAL = rf"(?:{WORD}|!{NUMBER})"
 VARIABLE = rf"(?:{TOKEN}\.{WORD}|{LOCAL}|{GLOBAL})"
 NAME = rf"(?:{VARIABLE}|{TOKEN})"
+# A value in a script, which may be written in several ways, and an argument of a constraint.
+GIVEN = rf"(?:-?[0-9]+(?:\.[0-9]{{1,3}})?|{OBJECT})"
+ARGUMENT = rf"(?:{NAME}|{GIVEN})"
+KIND = "(?:eq|neq|lt|leq|addEq|mulEq|testEQ|testLEQ)"
+RELATION = "(?:any|before|after|meets|met_by|equals|contains|contained_by|starts|ends|parallels|paralleled_by|" \
+           "starts_during|contains_start|ends_during|contains_end)"
 TIMES = rf"start {SIGNED} end {SIGNED} duration {SIGNED}"
 PLAN_LINE = "|".join([
     rf"global {GLOBAL} {VALUE}",
@@ -160,6 +166,7 @@ class Check:
 
 DECISION = "|".join([
     rf"specify {VARIABLE} {VALUE}", rf"activate {TOKEN}", rf"merge {TOKEN} {TOKEN}", rf"reject {WORD}", rf"order {TOKEN} {TOKEN}",
+    rf"post {KIND}(?: (?:{VARIABLE}|{VALUE}))+", rf"relate {RELATION} {TOKEN} {TOKEN}",
 ])
 STATE = rf"(?:inactive|active|fact|merged {TOKEN}|rejected)"
 POINT = rf"(?:origin|{TOKEN}\.(?:start|end))"
@@ -170,12 +177,16 @@ FLAW = "|".join([
 # Of each command its words, what it may be refused for, whether it may be inconsistent, and what it may be answered else. Any
 # name is read where one is wanted; that it isn't a token's or a variable's is for the replies to say.
 COMMANDS = {
-    "specify": (rf"{NAME} (?:-?[0-9]+(?:\.[0-9]{{1,3}})?|{OBJECT})", "full inconsistent unknown decided not-in-domain not-active", True, "ok"),
+    "specify": (rf"{NAME} {GIVEN}", "full inconsistent unknown decided not-in-domain not-active", True, "ok"),
     "activate": (NAME, "full inconsistent unknown decided active-full", True, "ok"),
     "merge": (rf"{NAME} {NAME}", "full inconsistent unknown decided not-active not-same-predicate", True, "ok"),
     "reject": (NAME, "full inconsistent unknown decided not-rejectable", True, "ok"),
     "order": (rf"{NAME} {NAME}", "full inconsistent unknown decided not-active same", True, "ok"),
+    "post": (rf"{KIND}(?: {ARGUMENT})+", "full inconsistent unknown wrong-type decided not-in-domain not-active", True, "ok"),
+    "relate": (rf"{RELATION} {NAME} {NAME}", "full inconsistent unknown decided not-active same", True, "ok"),
     "reset": (rf"{NAME}(?: {NAME})?", "full no-decision", True, "ok"),
+    "withdraw": (rf"{KIND}(?: {ARGUMENT})+", "full no-decision", True, "ok"),
+    "unrelate": (rf"{RELATION} {NAME} {NAME}", "full no-decision", True, "ok"),
     "undo": ("", "nothing", True, "ok"),
     "domain": (NAME, "unknown", True, rf"{VARIABLE} (?:\[{SIGNED} {SIGNED}\]|\[{DECIMAL} {DECIMAL}\]|\{{{VALUE}(?: {VALUE})*\}})"),
     "tokens": ("", "", True, None),

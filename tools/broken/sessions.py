@@ -8,7 +8,13 @@ STRANGE_LINES = [b"", b" \t", b"quit", b"quit now", b"Activate", b"specify", b"\
 COMMANDS = {
     b"activate": 24, b"specify": 18, b"merge": 8, b"reject": 4, b"order": 8, b"reset": 10, b"undo": 6, b"domain": 10,
     b"tokens": 3, b"decisions": 3, b"flaws": 4, b"solve": 4, b"why": 5, b"cycle": 5,
+    b"post": 10, b"relate": 8, b"withdraw": 4, b"unrelate": 3,
 }
+# The constraints that are posted, each with how many arguments it has; and words that name none of these.
+KINDS = {b"eq": 2, b"neq": 2, b"lt": 2, b"leq": 2, b"addEq": 3, b"mulEq": 3, b"testEQ": 3, b"testLEQ": 3}
+STRANGE_KINDS = [b"allDiff", b"field", b"gt"]
+RELATIONS = b"any before after meets met_by equals contains contained_by starts ends parallels paralleled_by".split() + [
+    b"starts_during", b"contains_start", b"ends_during", b"contains_end"]
 POST = re.compile(rb"(?:goal|rejectable|fact)\s*\(\s*([\w.]+)\.(\w+)\s+(\w+)\s*\)")
 MADE = re.compile(rb"(\w+)\s+(\w+)\s*=\s*new\s+(\w+)")
 GLOBAL = re.compile(rb"^(?:int|bool|\w+)\b[^;(){}=\n]*?[\s\]](\w+)\s*(?:=[^;(\n]*)?;", re.M)
@@ -64,6 +70,15 @@ class Writer:
             return self.pick(NUMBERS[:8] if self.random.randrange(4) else NUMBERS)
         return self.pick(self.names.members + self.names.objects + [b"true", b"false"])
 
+    def constraint(self):
+        """A constraint with arguments, mostly as many as it takes."""
+        kind = self.random.choice(list(KINDS))
+        count = KINDS[kind] + self.random.choice([0] * 12 + [-1, 1])
+        given = [self.variable() if self.random.randrange(10) < 7 else self.value() for _ in range(count)]
+        if kind == b"mulEq" and count > 1 and self.random.randrange(8):
+            given[1] = self.random.choice([b"-1", b"1", b"2", b"3"])
+        return [self.random.choice(STRANGE_KINDS) if self.random.randrange(1000) < self.slips else kind, *given]
+
     def command(self):
         """A line of a script."""
         name = self.random.choices(list(COMMANDS), list(COMMANDS.values()))[0]
@@ -78,6 +93,10 @@ class Writer:
             return [self.variable(), self.value()]
         if name == b"domain":
             return [self.variable()]
+        if name in (b"post", b"withdraw"):
+            return self.constraint()
+        if name in (b"relate", b"unrelate"):
+            return [self.pick(RELATIONS), self.token(), self.token()]
         if name == b"reset":
             return self.random.choice([[self.variable()], [self.token()], [self.token(), self.token()]])
         if name == b"solve":
