@@ -95,17 +95,18 @@ def not_in_domain(state: State, words: List[str]) -> str:
     return f"{quoted(state, words[1])} was declared without the value `{plain(words[2])}`"
 
 
-def rejectable_of(state: State, words: List[str]) -> str:
-    """The token that would have to be taken for a value, a constraint or a relation."""
+def rejectables_of(state: State, words: List[str]) -> List[str]:
+    """The tokens of which one has to be taken for a value, a constraint or a relation; no subgoal is a rejectable."""
     named = words[2:] if words[0] == "relate" else [word.rpartition(".")[0] for word in words[1:]]
     idle = [word for word in named if word in state.tokens and state.tokens[word].state in ("inactive", "rejected")]
-    return next((word for word in idle if "/" not in word), (idle or named)[0])
+    return list(dict.fromkeys([word for word in idle if "/" not in word] or idle or named))
 
 
 def not_active(state: State, words: List[str]) -> str:
     if words[0] in ("specify", "post", "relate"):
-        token = rejectable_of(state, words)
-        return f"{quoted(state, token)} is a rejectable of which isn't decided that it takes place: `activate` it first"
+        told = [quoted(state, token) for token in rejectables_of(state, words)]
+        which = f"{told[0]} is a rejectable" if len(told) == 1 else f"one of {' and '.join(told)} is a rejectable"
+        return f"{which} of which isn't decided that it takes place: `activate` it first"
     named = words[2:] if words[0] == "merge" else words[1:]
     idle = [word for word in named if word in state.tokens and state.tokens[word].state not in ("active", "fact")]
     told = " and ".join(quoted(state, word) for word in idle or named)

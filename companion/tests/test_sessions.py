@@ -118,7 +118,7 @@ class Sessions(InFolder):
         told = session("crew", "relate before pump day", "relate before pump day", "relate before pump pump",
                        "relate before pump washing", "relate before pump lunch", "unrelate before pump day", "undo", "undo")
         for part, line in zip(("ok", "`unrelate before pump day` takes it out", "`pump` can't be related to itself",
-                               "`washing` is a rejectable", "no token `lunch`", "ok", "ok", "ok"), told):
+                               "one of `pump` and `washing` is a rejectable", "no token `lunch`", "ok", "ok", "ok"), told):
             self.assertIn(part, line)
 
     def test_a_value_that_was_never_there(self) -> None:
